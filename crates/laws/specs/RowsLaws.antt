@@ -1,0 +1,75 @@
+-- Laws of rows: one that applies, and one that does not, for each kind of test; and what an answer of 0 says. Assumes nothing.
+use mathlib.Core.Path.{_≡_, refl, _∙_, sym}
+use mathlib.Core.Bool.{Bool, true, false, not}
+use Prim.Native.Nat.{ℕ, zero, suc, _≤_, _<_}
+use native.Mathlib.Omega.{arith}
+use lib.Dec.{eqb, ltb}
+use borrow.Author.Tests.{lt-ltb, le-ltb, eq-eqb, ne-eqb}
+use Rattle.laws.specs.Rows.{when, _orElse_, branch}
+
+module _ (r n x : ℕ) where
+  hit : (t : Bool) → t ≡ true → 0 < n → n ≡ when t n orElse x
+  unfolding when _orElse_
+  hit t e p = rw e (go n p)
+    where
+      go : (n : ℕ) → 0 < n → n ≡ n orElse x
+      go zero p = absurd (omega arith)
+      go (suc n) p = refl
+
+  miss : (t : Bool) → t ≡ false → r ≡ x → r ≡ when t n orElse x
+  unfolding when _orElse_
+  miss t e p = rw e p
+
+  module _ (a b : ℕ) where
+    pub hit-lt : a < b → 0 < n → n ≡ when (ltb a b) n orElse x
+    hit-lt h p = hit _ (lt-ltb a b h) p
+
+    pub miss-lt : b ≤ a → r ≡ x → r ≡ when (ltb a b) n orElse x
+    miss-lt h p = miss _ (le-ltb a b h) p
+
+    pub hit-eq : a ≡ b → 0 < n → n ≡ when (eqb a b) n orElse x
+    hit-eq h p = hit _ (eq-eqb a b h) p
+
+    pub miss-eq : (a ≡ b → ⊥) → r ≡ x → r ≡ when (eqb a b) n orElse x
+    miss-eq h p = miss _ (ne-eqb a b h) p
+
+    pub hit-ne : (a ≡ b → ⊥) → 0 < n → n ≡ when (not (eqb a b)) n orElse x
+    hit-ne h p = hit _ (rw (ne-eqb a b h)) p
+
+    pub miss-ne : a ≡ b → r ≡ x → r ≡ when (not (eqb a b)) n orElse x
+    miss-ne h p = miss _ (rw (eq-eqb a b h)) p
+
+    -- one of two rows
+    pub then-eq : a ≡ b → r ≡ n → r ≡ branch (eqb a b) n x
+    unfolding branch
+    then-eq h p = rw (eq-eqb a b h) p
+
+    pub else-eq : (a ≡ b → ⊥) → r ≡ x → r ≡ branch (eqb a b) n x
+    unfolding branch
+    else-eq h p = rw (ne-eqb a b h) p
+
+  -- the row of a callee, whose result is r
+  pub hit-row : r ≡ n → (r ≡ 0 → ⊥) → r ≡ n orElse x
+  unfolding _orElse_
+  hit-row e ne = go n e
+    where
+      go : (n : ℕ) → r ≡ n → r ≡ n orElse x
+      go zero e = absurd (ne e)
+      go (suc n) e = e
+
+  pub miss-row : (q : ℕ) → q ≡ n → q ≡ 0 → r ≡ x → r ≡ n orElse x
+  unfolding _orElse_
+  miss-row q e z p = rw (sym e ∙ z) p
+
+pub ruleset rows = (hit-lt, miss-lt, hit-eq, miss-eq, hit-ne, miss-ne, then-eq, else-eq, hit-row, miss-row)
+
+-- where a row of rows answers 0, each of them does
+pub row-left : (a b : ℕ) → a orElse b ≡ 0 → a ≡ 0
+unfolding _orElse_
+row-left zero b e = refl
+row-left (suc a) b e = e
+
+pub row-right : (a b : ℕ) → a orElse b ≡ 0 → b ≡ 0
+unfolding _orElse_
+row-right zero b e = e
+row-right (suc a) b e = absurd (omega arith)

@@ -1,0 +1,1 @@
+// Pure theory: laws that several crates cite. All of it stands in specs/.

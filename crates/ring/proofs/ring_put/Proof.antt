@@ -1,0 +1,135 @@
+-- `cp::ring_put` meets its contract. Assumes nothing.
+use mathlib.Core.Path.{_≡_, _∙_, ap}
+use Prim.Native.Nat.{ℕ, _+_, _-_, _%_}
+use native.Mathlib.Omega.{arith}
+use lib.ListN.{length, take, drop}
+use Rattle.ring.proofs.Ring.{put-one, put-two}
+use borrow.Author.Needs.{needs}
+use Rattle.ring.proofs.ring_put.Statement.{statement}
+use Rattle.ring.proofs.ring_put.Tie as tie
+
+sub-room : tie.Need-sub-room
+sub-room c = search needs
+
+add-copy : tie.Need-add-copy
+add-copy c = search needs
+
+sub-copy : tie.Need-sub-copy
+sub-copy c = search needs
+
+part-copy-start : tie.Need-part-copy-start
+part-copy-start c = search needs
+
+part-copy-end : tie.Need-part-copy-end
+part-copy-end c = search needs
+
+copy-requires : tie.Need-copy-requires
+copy-requires c κs = search needs
+
+sub-copy-2 : tie.Need-sub-copy-2
+sub-copy-2 c = search needs
+
+part-copy-start-2 : tie.Need-part-copy-start-2
+part-copy-start-2 c = search needs
+
+part-copy-end-2 : tie.Need-part-copy-end-2
+part-copy-end-2 c = search needs
+
+sub-copy-3 : tie.Need-sub-copy-3
+sub-copy-3 c = search needs
+
+part-copy-start-3 : tie.Need-part-copy-start-3
+part-copy-start-3 c = search needs
+
+part-copy-end-3 : tie.Need-part-copy-end-3
+part-copy-end-3 c = search needs
+
+copy-requires-2 : tie.Need-copy-requires-2
+copy-requires-2 c κs = search needs
+
+sub-copy-4 : tie.Need-sub-copy-4
+sub-copy-4 c = search needs
+
+sub-copy-5 : tie.Need-sub-copy-5
+sub-copy-5 c = search needs
+
+part-copy-start-4 : tie.Need-part-copy-start-4
+part-copy-start-4 c = search needs
+
+part-copy-end-4 : tie.Need-part-copy-end-4
+part-copy-end-4 c = search needs
+
+sub-copy-6 : tie.Need-sub-copy-6
+sub-copy-6 c = search needs
+
+part-copy-start-5 : tie.Need-part-copy-start-5
+part-copy-start-5 c = search needs
+
+part-copy-end-5 : tie.Need-part-copy-end-5
+part-copy-end-5 c = search needs
+
+copy-requires-3 : tie.Need-copy-requires-3
+copy-requires-3 c κs = search needs
+
+same-length : tie.Need-same-length
+same-length c = search needs
+
+returns : tie.Need-returns
+returns c =
+    let a = c .before .before .before .before .before .before .before .args in
+    let p = a .pos % 65536 in
+    let n = length (a .src .now) in
+    put-one (a .ring .now) (a .src .now) (c .before .before .copy .last .0) (a .pos) (p + n - p) (omega arith) (omega arith) (omega arith)
+    (c .before .before .copy .ensures)
+    (search needs)
+
+same-length-2 : tie.Need-same-length-2
+same-length-2 c = search needs
+
+returns-2 : tie.Need-returns-2
+returns-2 c =
+    let a = c .before .before .before .before .before .before .before .before .before .before .before .before .before .args in
+    let s = a .src .now in
+    let k = 65536 - a .pos % 65536 in
+    let m = length s - k - 0 in
+    let y = c .before .before .before .before .before .before .before .copy2 in
+    let z = c .before .before .copy3 in
+    let n = length s in
+    let u : k - 0 ≡ k = omega arith in
+    let v : n - k ≡ m = omega arith in
+    put-two (a .ring .now) s (y .last .0) (z .last .0) (a .pos) k m (omega arith) (omega arith) (omega arith) (omega arith) (omega arith)
+    (y .ensures ∙ ap (λ (x : ℕ). take x s) u)
+    (z .ensures ∙ ap (λ (x : ℕ). take x (drop k s)) v)
+    (search needs)
+    (search needs)
+    (search needs)
+
+pub ring-put-spec : {M : Type 1} → statement M
+ring-put-spec =
+    tie.close
+    (tie.spec
+    sub-room
+    add-copy
+    sub-copy
+    part-copy-start
+    part-copy-end
+    copy-requires
+    sub-copy-2
+    part-copy-start-2
+    part-copy-end-2
+    sub-copy-3
+    part-copy-start-3
+    part-copy-end-3
+    copy-requires-2
+    sub-copy-4
+    sub-copy-5
+    part-copy-start-4
+    part-copy-end-4
+    sub-copy-6
+    part-copy-start-5
+    part-copy-end-5
+    copy-requires-3
+    same-length
+    returns
+    same-length-2
+    returns-2)

@@ -1,0 +1,2 @@
+pub mod Datagram
+pub mod DatagramLaws
