@@ -2,6 +2,7 @@
 use mathlib.Core.Path.{_≡_, refl, _∙_, sym}
 use mathlib.Core.Bool.{Bool, true, false, not}
 use Prim.Native.Nat.{ℕ, zero, suc, _≤_, _<_}
+use native.Mathlib.Decide.{decLt, ℕ-discrete}
 use native.Mathlib.Omega.{arith}
 use lib.Dec.{eqb, ltb}
 use borrow.Author.Tests.{lt-ltb, le-ltb, eq-eqb, ne-eqb}
@@ -73,3 +74,22 @@ pub row-right : (a b : ℕ) → a orElse b ≡ 0 → b ≡ 0
 unfolding _orElse_
 row-right zero b e = e
 row-right (suc a) b e = absurd (omega arith)
+
+-- and its test does not hold
+pub passed-lt : (a b n : ℕ) → 0 < n → when (ltb a b) n ≡ 0 → b ≤ a
+unfolding when
+passed-lt a b n p e = elim (decLt a b) [
+  | yes l ↦ absurd (omega (arith, rw (lt-ltb a b l) at e))
+  | no l ↦ omega arith
+]
+
+pub passed-eq : (a b n : ℕ) → 0 < n → when (eqb a b) n ≡ 0 → a ≡ b → ⊥
+unfolding when
+passed-eq a b n p e q = omega (arith, rw (eq-eqb a b q) at e)
+
+pub passed-ne : (a b n : ℕ) → 0 < n → when (not (eqb a b)) n ≡ 0 → a ≡ b
+unfolding when
+passed-ne a b n p e = elim (ℕ-discrete a b) [
+  | yes q ↦ q
+  | no q ↦ absurd (omega (arith, rw (ne-eqb a b q) at e))
+]

@@ -1,6 +1,6 @@
 -- 01 §2: datagrams as an end sends them, and their bytes.
 use mathlib.Core.List.{List, [], _∷_, _++_}
-use Prim.Native.Nat.{ℕ, zero, suc, _+_, _*_, _/_, _%_, _^_}
+use Prim.Native.Nat.{ℕ, zero, suc, _+_, _*_, _/_, _%_, _^_, _≤_, _<_}
 use lib.ListN.{length}
 use Rattle.wire.specs.declared.Header.{Header}
 
@@ -82,3 +82,9 @@ encode epoch number m = headOf (headerOf epoch number m) ++ payloadOf m
 unfoldable pub wire : ℕ → ℕ → List Message → List ℕ
 wire epoch number [] = []
 wire epoch number (m ∷ ms) = wire epoch number ms ++ encode epoch (number + length ms + 1) m
+
+-- what the fields can hold and section 2 allows
+pub data Sendable : Message → Type 0 where
+  a-DATA : {p e : ℕ} {bs : List ℕ} → p < 2 ^ 64 → length bs ≤ payloadMost → e ≤ 1 → 0 < length bs + e → Sendable (DATA p bs e)
+  an-ACK : {p c : ℕ} → p < 2 ^ 64 → c < 2 ^ 32 → Sendable (ACK p c)
+  a-PROBE : {p : ℕ} → p < 2 ^ 64 → Sendable (PROBE p)

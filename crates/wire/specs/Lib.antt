@@ -1,2 +1,5 @@
 pub mod Datagram
 pub mod DatagramLaws
+pub mod Reading
+pub mod ReadingLaws
+pub mod RoundTrip
