@@ -2,4 +2,5 @@ pub mod Datagram
 pub mod DatagramLaws
 pub mod Reading
 pub mod ReadingLaws
-pub mod RoundTrip
+pub mod FormLaws
+pub mod RoundTripLaws

@@ -3,7 +3,6 @@ ghost use mathlib.Core.Path.{_≡_};
 ghost use Prim.Native.Nat.{ℕ, _+_, _≤_, _<_};
 ghost use lib.ListN.{length};
 ghost use Rattle.wire.specs.Datagram.{headSize, be, startOf, restOf, headOf};
-
 ghost use Rattle.wire.specs.Reading.{dataRow, plainRow, rowsOf, formOf, Got, Fields};
 
 pub const HEAD_SIZE: u64 = 32;
@@ -102,7 +101,8 @@ fn data_row(h: Header) -> u64
     if PAYLOAD_MOST < h.length {
         return 2;
     }
-    if 0 < h.credit {
+    let credit = h.credit;
+    if 0 < credit {
         return 2;
     }
     let both = h.length + h.flags;
