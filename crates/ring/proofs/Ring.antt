@@ -7,7 +7,7 @@ use native.Mathlib.Omega.{arith}
 use lib.ListN.{length, take, drop, getD, replicate, length-replicate, List·getD-append}
 use lib.Seq.{getD-append-add, getD-take, getD-drop, length-take-le}
 use borrow.Rule.Slice.PartMut.{putMid, postOf, same-len-mid, mid-len}
-use Rattle.ring.specs.Ring.{Put, Got, Zero}
+use Rattle.ring.specs.Ring.{capacity, Put, Got, Zero}
 
 split : (a b : ℕ) → (a < b) ⊎ (b ≤ a)
 split a zero = inr zero-le
@@ -35,16 +35,16 @@ module _ (r y : List ℕ) (a k : ℕ) (fits : a ≤ length r) where
       ∙ getD-drop a r (k + m) 0)
 
 -- s in one part
-pub put-one : (r s y : List ℕ) (pos k : ℕ) → length r ≡ 65536 → pos % 65536 + length s ≤ 65536 → k ≡ length s → y ≡ s
-    → length (putMid (pos % 65536) k r y) ≡ length r → Put r pos s (putMid (pos % 65536) k r y)
+pub put-one : (r s y : List ℕ) (pos k : ℕ) → length r ≡ capacity → pos % capacity + length s ≤ capacity → k ≡ length s → y ≡ s
+    → length (putMid (pos % capacity) k r y) ≡ length r → Put r pos s (putMid (pos % capacity) k r y)
 put-one r s y pos k full room e h size =
-    let a : ℕ = pos % 65536 in
+    let a : ℕ = pos % capacity in
     let fits : a ≤ length r = omega arith in
     let l : length y ≡ length s = ap length h in
     let n : length y ≡ k = omega arith in record {
       size = size;
       written = λ j b.
-          let w : (pos + j) % 65536 ≡ a + j = omega arith in
+          let w : (pos + j) % capacity ≡ a + j = omega arith in
           rw w (in-part r y a k fits j (omega arith) ∙ ap (λ (z : List ℕ). getD z j 0) h);
       kept = λ j b out.
           ⊎-elim (λ lo. before-part r y a k fits j lo)
@@ -53,18 +53,18 @@ put-one r s y pos k full room e h size =
     }
 
 -- s in two parts: y at the end of the ring, and z at its start
-pub put-two : (r s y z : List ℕ) (pos k m : ℕ) → length r ≡ 65536 → 65536 < pos % 65536 + length s → length s ≤ 65536
-    → k ≡ 65536 - pos % 65536 → m ≡ length s - k → y ≡ take k s → z ≡ take m (drop k s) → length y ≡ k → length z ≡ m
-    → length (putMid 0 m (putMid (pos % 65536) k r y) z) ≡ length r → Put r pos s (putMid 0 m (putMid (pos % 65536) k r y) z)
+pub put-two : (r s y z : List ℕ) (pos k m : ℕ) → length r ≡ capacity → capacity < pos % capacity + length s → length s ≤ capacity
+    → k ≡ capacity - pos % capacity → m ≡ length s - k → y ≡ take k s → z ≡ take m (drop k s) → length y ≡ k → length z ≡ m
+    → length (putMid 0 m (putMid (pos % capacity) k r y) z) ≡ length r → Put r pos s (putMid 0 m (putMid (pos % capacity) k r y) z)
 put-two r s y z pos k m full over small ek em hy hz ly lz size =
-    let a : ℕ = pos % 65536 in
+    let a : ℕ = pos % capacity in
     let fits : a ≤ length r = omega arith in
     let q : List ℕ = putMid a k r y in record {
       size = size;
       written = λ j b.
           ⊎-elim
           (λ lo.
-          let w : (pos + j) % 65536 ≡ a + j = omega arith in
+          let w : (pos + j) % capacity ≡ a + j = omega arith in
           let f : 0 + m ≤ a + j = omega arith in
           let g : j < length y = omega arith in
           rw w
@@ -73,7 +73,7 @@ put-two r s y z pos k m full over small ek em hy hz ly lz size =
           ∙ getD-take k s j 0 lo))
           (λ lo.
           let i : ℕ = j - k in
-          let w : (pos + j) % 65536 ≡ 0 + i = omega arith in
+          let w : (pos + j) % capacity ≡ 0 + i = omega arith in
           let v : k + i ≡ j = omega arith in
           let f : i < length z = omega arith in
           let g : i < m = omega arith in
@@ -92,22 +92,22 @@ put-two r s y z pos k m full over small ek em hy hz ly lz size =
     }
 
 -- n bytes of the ring in one part
-pub got-one : (r d : List ℕ) (pos n k : ℕ) → pos % 65536 + n ≤ 65536 → k ≡ n → d ≡ take k (drop (pos % 65536) r) → length d ≡ n → Got r pos n d
+pub got-one : (r d : List ℕ) (pos n k : ℕ) → pos % capacity + n ≤ capacity → k ≡ n → d ≡ take k (drop (pos % capacity) r) → length d ≡ n → Got r pos n d
 got-one r d pos n k room e h l =
-    let a : ℕ = pos % 65536 in record {
+    let a : ℕ = pos % capacity in record {
       size = l;
       read = λ j b.
-          let w : (pos + j) % 65536 ≡ a + j = omega arith in
+          let w : (pos + j) % capacity ≡ a + j = omega arith in
           let f : j < k = omega arith in
           rw w (ap (λ (x : List ℕ). getD x j 0) h ∙ getD-take k (drop a r) j 0 f ∙ getD-drop a r j 0);
     }
 
 -- n bytes of the ring in two parts: y from its end, and z from its start
-pub got-two : (r d y z : List ℕ) (pos n k k′ m m′ : ℕ) → length d ≡ n → 65536 < pos % 65536 + n → n ≤ 65536
-    → k ≡ 65536 - pos % 65536 → k′ ≡ k → m ≡ n - k → m′ ≡ m → y ≡ take k (drop (pos % 65536) r) → z ≡ take m′ r → length y ≡ k → length z ≡ m
+pub got-two : (r d y z : List ℕ) (pos n k k′ m m′ : ℕ) → length d ≡ n → capacity < pos % capacity + n → n ≤ capacity
+    → k ≡ capacity - pos % capacity → k′ ≡ k → m ≡ n - k → m′ ≡ m → y ≡ take k (drop (pos % capacity) r) → z ≡ take m′ r → length y ≡ k → length z ≡ m
     → length (putMid k m (putMid 0 k′ d y) z) ≡ n → Got r pos n (putMid k m (putMid 0 k′ d y) z)
 got-two r d y z pos n k k′ m m′ ld over small ek ek′ em em′ hy hz ly lz size =
-    let a : ℕ = pos % 65536 in
+    let a : ℕ = pos % capacity in
     let q : List ℕ = putMid 0 k′ d y in
     let lq : length q ≡ length d = same-len-mid 0 k′ d y (ly ∙ sym ek′ ∙ sym (length-take-le k′ d (omega arith))) in
     let fits : k ≤ length q = omega arith in record {
@@ -115,7 +115,7 @@ got-two r d y z pos n k k′ m m′ ld over small ek ek′ em em′ hy hz ly lz 
       read = λ j b.
           ⊎-elim
           (λ lo.
-          let w : (pos + j) % 65536 ≡ a + j = omega arith in
+          let w : (pos + j) % capacity ≡ a + j = omega arith in
           let z₀ : 0 + j ≡ j = omega arith in
           let g : j < length y = omega arith in
           rw w
@@ -124,7 +124,7 @@ got-two r d y z pos n k k′ m m′ ld over small ek ek′ em em′ hy hz ly lz 
           ∙ getD-drop a r j 0))
           (λ lo.
           let i : ℕ = j - k in
-          let w : (pos + j) % 65536 ≡ i = omega arith in
+          let w : (pos + j) % capacity ≡ i = omega arith in
           let v : j ≡ k + i = omega arith in
           let f : i < length z = omega arith in
           let g : i < m′ = omega arith in
@@ -166,15 +166,15 @@ filled-part y l k v e h =
     let f : l ≡ k = sym (length-replicate l v) ∙ sym (ap length e) ∙ h in
     rw f at e
 
-pub fill-one : (r y : List ℕ) (pos n k v l : ℕ) → length r ≡ 65536 → pos % 65536 + n ≤ 65536 → k ≡ n → y ≡ replicate l v → length y ≡ k
-    → length (putMid (pos % 65536) k r y) ≡ length r → Put r pos (replicate n v) (putMid (pos % 65536) k r y)
+pub fill-one : (r y : List ℕ) (pos n k v l : ℕ) → length r ≡ capacity → pos % capacity + n ≤ capacity → k ≡ n → y ≡ replicate l v → length y ≡ k
+    → length (putMid (pos % capacity) k r y) ≡ length r → Put r pos (replicate n v) (putMid (pos % capacity) k r y)
 fill-one r y pos n k v l full room e h ly size =
     let z : length (replicate n v) ≡ n = length-replicate n v in
     put-one r (replicate n v) y pos k full (omega arith) (omega arith) (filled-part y l n v h (ly ∙ e)) size
 
-pub fill-two : (r y z : List ℕ) (pos n k m v l j : ℕ) → length r ≡ 65536 → 65536 < pos % 65536 + n → n ≤ 65536
-    → k ≡ 65536 - pos % 65536 → m ≡ n - k → y ≡ replicate l v → z ≡ replicate j v → length y ≡ k → length z ≡ m
-    → length (putMid 0 m (putMid (pos % 65536) k r y) z) ≡ length r → Put r pos (replicate n v) (putMid 0 m (putMid (pos % 65536) k r y) z)
+pub fill-two : (r y z : List ℕ) (pos n k m v l j : ℕ) → length r ≡ capacity → capacity < pos % capacity + n → n ≤ capacity
+    → k ≡ capacity - pos % capacity → m ≡ n - k → y ≡ replicate l v → z ≡ replicate j v → length y ≡ k → length z ≡ m
+    → length (putMid 0 m (putMid (pos % capacity) k r y) z) ≡ length r → Put r pos (replicate n v) (putMid 0 m (putMid (pos % capacity) k r y) z)
 fill-two r y z pos n k m v l j full over small ek em hy hz ly lz size =
     let w : length (replicate n v) ≡ n = length-replicate n v in
     let hk : k ≤ n = omega arith in

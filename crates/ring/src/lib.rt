@@ -1,9 +1,12 @@
-// Copies, a byte and sixteen bytes at a time, and a write into a ring of 65,536 bytes.
+// 01 section 1: bytes of a stream at their positions in a ring, copied sixteen at a time, and the first 0 of a buffer.
 ghost use mathlib.Core.Path.{_≡_};
 ghost use Prim.Native.Nat.{ℕ, _+_, _≤_, _<_};
 ghost use lib.ListN.{length, drop, getD, replicate};
 ghost use lib.Seq.{paste};
-ghost use Rattle.ring.specs.Ring.{Put, Got, Zero};
+ghost use Rattle.ring.specs.Ring.{capacity, Put, Got, Zero};
+
+// The bytes of a ring: the byte of position p stands at p % CAPACITY.
+pub const CAPACITY: usize = 65536;
 
 // Copies all of src into dst, byte by byte.
 pub fn bytes(dst: &mut [u8], src: &[u8])
@@ -49,34 +52,34 @@ pub fn copy(dst: &mut [u8], src: &[u8])
 
 // Writes src into the ring from the position pos on.
 pub fn ring_put(ring: &mut [u8], pos: u64, src: &[u8])
-    requires { ⌜ length (now ring) ≡ 65536 ⌝ }
-    requires { ⌜ length (now src) ≤ 65536 ⌝ }
+    requires { ⌜ length (now ring) ≡ capacity ⌝ }
+    requires { ⌜ length (now src) ≤ capacity ⌝ }
     ensures { λ _. ⌜ Put (now (ring .entry)) pos (now (src .entry)) (now (ring .exit)) ⌝ }
 {
-    let at = (pos % 65536) as usize;
+    let at = (pos % CAPACITY as u64) as usize;
     let n = src.len();
-    let room = 65536 - at;
+    let room = CAPACITY - at;
     if n <= room {
         copy(&mut ring[at..at + n], src);
     } else {
-        copy(&mut ring[at..65536], &src[0..room]);
+        copy(&mut ring[at..CAPACITY], &src[0..room]);
         copy(&mut ring[0..n - room], &src[room..n]);
     }
 }
 
 // Reads dst.len() bytes of the ring from the position pos on.
 pub fn ring_get(dst: &mut [u8], ring: &[u8], pos: u64)
-    requires { ⌜ length (now ring) ≡ 65536 ⌝ }
-    requires { ⌜ length (now dst) ≤ 65536 ⌝ }
+    requires { ⌜ length (now ring) ≡ capacity ⌝ }
+    requires { ⌜ length (now dst) ≤ capacity ⌝ }
     ensures { λ _. ⌜ Got (now (ring .entry)) pos (length (now (dst .entry))) (now (dst .exit)) ⌝ }
 {
-    let at = (pos % 65536) as usize;
+    let at = (pos % CAPACITY as u64) as usize;
     let n = dst.len();
-    let room = 65536 - at;
+    let room = CAPACITY - at;
     if n <= room {
         copy(dst, &ring[at..at + n]);
     } else {
-        copy(&mut dst[0..room], &ring[at..65536]);
+        copy(&mut dst[0..room], &ring[at..CAPACITY]);
         copy(&mut dst[room..n], &ring[0..n - room]);
     }
 }
@@ -94,16 +97,16 @@ pub fn fill(m: &mut [u8], v: u8)
 
 // Sets the n bytes of the ring from the position pos on to v.
 pub fn ring_fill(ring: &mut [u8], pos: u64, n: usize, v: u8)
-    requires { ⌜ length (now ring) ≡ 65536 ⌝ }
-    requires { ⌜ n ≤ 65536 ⌝ }
+    requires { ⌜ length (now ring) ≡ capacity ⌝ }
+    requires { ⌜ n ≤ capacity ⌝ }
     ensures { λ _. ⌜ Put (now (ring .entry)) pos (replicate n v) (now (ring .exit)) ⌝ }
 {
-    let at = (pos % 65536) as usize;
-    let room = 65536 - at;
+    let at = (pos % CAPACITY as u64) as usize;
+    let room = CAPACITY - at;
     if n <= room {
         fill(&mut ring[at..at + n], v);
     } else {
-        fill(&mut ring[at..65536], v);
+        fill(&mut ring[at..CAPACITY], v);
         fill(&mut ring[0..n - room], v);
     }
 }

@@ -1,4 +1,4 @@
--- `cp::block` meets its contract. Assumes nothing.
+-- `ring::block` meets its contract. Assumes nothing.
 use mathlib.Core.Path.{_∙_}
 use Prim.Native.Nat.{_+_, _-_}
 use native.Mathlib.Omega.{arith}

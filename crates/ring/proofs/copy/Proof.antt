@@ -1,4 +1,4 @@
--- `cp::copy` meets its contract. Assumes nothing.
+-- `ring::copy` meets its contract. Assumes nothing.
 use mathlib.Core.Path.{_≡_, _∙_}
 use mathlib.Core.List.{_++_}
 use Prim.Native.Nat.{_-_, _≤_}

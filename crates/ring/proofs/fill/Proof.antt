@@ -1,4 +1,4 @@
--- `cp::fill` meets its contract. Assumes nothing.
+-- `ring::fill` meets its contract. Assumes nothing.
 use Rattle.ring.proofs.Laws.{fill-more, filled}
 use mathlib.Core.Path.{_≡_, refl, sym, ap, _∙_}
 use mathlib.Core.List.{List, _++_, append-nil}

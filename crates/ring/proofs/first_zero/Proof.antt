@@ -1,4 +1,4 @@
--- `cp::first_zero` meets its contract. Assumes nothing.
+-- `ring::first_zero` meets its contract. Assumes nothing.
 use mathlib.Core.Path.{_≡_}
 use Prim.Native.Nat.{ℕ, _-_, _≤_, _<_}
 use native.Mathlib.Omega.{arith}

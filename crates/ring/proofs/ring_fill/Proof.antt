@@ -1,12 +1,16 @@
--- `cp::ring_fill` meets its contract. Assumes nothing.
+-- `ring::ring_fill` meets its contract. Assumes nothing.
 use lib.ListN.{length, take, drop}
 use borrow.Rule.Slice.PartMut.{putMid}
 use Prim.Native.Nat.{_+_, _-_, _%_}
 use native.Mathlib.Omega.{arith}
 use Rattle.ring.proofs.Ring.{fill-one, fill-two}
 use borrow.Author.Needs.{needs}
+use Rattle.ring.specs.Ring.{capacity}
 use Rattle.ring.proofs.ring_fill.Statement.{statement}
 use Rattle.ring.proofs.ring_fill.Tie as tie
+
+rem-at : tie.Need-rem-at
+rem-at c = search needs
 
 sub-room : tie.Need-sub-room
 sub-room c = search needs
@@ -59,7 +63,7 @@ same-length c = search needs
 returns : tie.Need-returns
 returns c =
     let a = c .before .before .before .before .before .before .args in
-    let p = a .pos % 65536 in
+    let p = a .pos % capacity in
     fill-one (a .ring .now) (c .before .before .fill .last .0) (a .pos) (a .n) (p + a .n - p) (a .v) (length (take (p + a .n - p) (drop p (a .ring .now)))) (omega arith) (omega arith) (omega arith)
     (c .before .before .fill .ensures)
     (search needs)
@@ -71,11 +75,11 @@ same-length-2 c = search needs
 returns-2 : tie.Need-returns-2
 returns-2 c =
     let a = c .before .before .before .before .before .before .before .before .before .before .args in
-    let k = 65536 - a .pos % 65536 in
+    let k = capacity - a .pos % capacity in
     let y = c .before .before .before .before .before .before .fill2 in
     let z = c .before .before .fill3 in
-    fill-two (a .ring .now) (y .last .0) (z .last .0) (a .pos) (a .n) k (a .n - k - 0) (a .v) (length (take (65536 - a .pos % 65536) (drop (a .pos % 65536) (a .ring .now))))
-    (length (take (a .n - k - 0) (drop 0 (putMid (a .pos % 65536) k (a .ring .now) (y .last .0))))) (omega arith) (omega arith) (omega arith) (omega arith)
+    fill-two (a .ring .now) (y .last .0) (z .last .0) (a .pos) (a .n) k (a .n - k - 0) (a .v) (length (take (capacity - a .pos % capacity) (drop (a .pos % capacity) (a .ring .now))))
+    (length (take (a .n - k - 0) (drop 0 (putMid (a .pos % capacity) k (a .ring .now) (y .last .0))))) (omega arith) (omega arith) (omega arith) (omega arith)
     (omega arith)
     (y .ensures)
     (z .ensures)
@@ -87,6 +91,7 @@ pub ring-fill-spec : {M : Type 1} → statement M
 ring-fill-spec =
     tie.close
     (tie.spec
+    rem-at
     sub-room
     add-fill
     sub-fill

@@ -1,12 +1,16 @@
--- `cp::ring_get` meets its contract. Assumes nothing.
+-- `ring::ring_get` meets its contract. Assumes nothing.
 use mathlib.Core.Path.{_≡_, _∙_, ap}
 use Prim.Native.Nat.{ℕ, _+_, _-_, _%_}
 use native.Mathlib.Omega.{arith}
 use lib.ListN.{length, take, drop}
 use Rattle.ring.proofs.Ring.{got-one, got-two}
 use borrow.Author.Needs.{needs}
+use Rattle.ring.specs.Ring.{capacity}
 use Rattle.ring.proofs.ring_get.Statement.{statement}
 use Rattle.ring.proofs.ring_get.Tie as tie
+
+rem-at : tie.Need-rem-at
+rem-at c = search needs
 
 sub-room : tie.Need-sub-room
 sub-room c = search needs
@@ -77,7 +81,7 @@ same-length c = search needs
 returns : tie.Need-returns
 returns c =
     let a = c .before .before .before .before .before .before .before .before .args in
-    let p = a .pos % 65536 in
+    let p = a .pos % capacity in
     let n = length (a .dst .now) in
     got-one (a .ring .now) (c .before .before .copy .last .0) (a .pos) n (p + n - p) (omega arith) (omega arith)
     (c .before .before .copy .ensures)
@@ -91,7 +95,7 @@ returns-2 c =
     let a = c .before .before .before .before .before .before .before .before .before .before .before .before .before .args in
     let r = a .ring .now in
     let n = length (a .dst .now) in
-    let k = 65536 - a .pos % 65536 in
+    let k = capacity - a .pos % capacity in
     let m = n - k in
     let y = c .before .before .before .before .before .before .before .copy2 in
     let z = c .before .before .copy3 in
@@ -108,6 +112,7 @@ pub ring-get-spec : {M : Type 1} → statement M
 ring-get-spec =
     tie.close
     (tie.spec
+    rem-at
     sub-room
     add-copy
     sub-copy

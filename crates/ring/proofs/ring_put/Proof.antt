@@ -1,12 +1,16 @@
--- `cp::ring_put` meets its contract. Assumes nothing.
+-- `ring::ring_put` meets its contract. Assumes nothing.
 use mathlib.Core.Path.{_≡_, _∙_, ap}
 use Prim.Native.Nat.{ℕ, _+_, _-_, _%_}
 use native.Mathlib.Omega.{arith}
 use lib.ListN.{length, take, drop}
 use Rattle.ring.proofs.Ring.{put-one, put-two}
 use borrow.Author.Needs.{needs}
+use Rattle.ring.specs.Ring.{capacity}
 use Rattle.ring.proofs.ring_put.Statement.{statement}
 use Rattle.ring.proofs.ring_put.Tie as tie
+
+rem-at : tie.Need-rem-at
+rem-at c = search needs
 
 sub-room : tie.Need-sub-room
 sub-room c = search needs
@@ -77,7 +81,7 @@ same-length c = search needs
 returns : tie.Need-returns
 returns c =
     let a = c .before .before .before .before .before .before .before .args in
-    let p = a .pos % 65536 in
+    let p = a .pos % capacity in
     let n = length (a .src .now) in
     put-one (a .ring .now) (a .src .now) (c .before .before .copy .last .0) (a .pos) (p + n - p) (omega arith) (omega arith) (omega arith)
     (c .before .before .copy .ensures)
@@ -90,7 +94,7 @@ returns-2 : tie.Need-returns-2
 returns-2 c =
     let a = c .before .before .before .before .before .before .before .before .before .before .before .before .before .args in
     let s = a .src .now in
-    let k = 65536 - a .pos % 65536 in
+    let k = capacity - a .pos % capacity in
     let m = length s - k - 0 in
     let y = c .before .before .before .before .before .before .before .copy2 in
     let z = c .before .before .copy3 in
@@ -108,6 +112,7 @@ pub ring-put-spec : {M : Type 1} → statement M
 ring-put-spec =
     tie.close
     (tie.spec
+    rem-at
     sub-room
     add-copy
     sub-copy

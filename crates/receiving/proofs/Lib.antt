@@ -1,0 +1,4 @@
+pub mod StepsLaws
+pub mod FillingLaws
+pub mod FillLaws
+pub mod TakeLaws

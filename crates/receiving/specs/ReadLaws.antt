@@ -1,0 +1,196 @@
+-- Laws of what is read out of the lent buffers. Assumes nothing.
+use mathlib.Core.Path.{_≡_, refl, sym, _∙_, ap}
+use mathlib.Core.Logic.{⊎-elim}
+use mathlib.Core.Bool.{Bool, true, false}
+use mathlib.Core.List.{List, [], _∷_, _++_}
+use Prim.Native.Nat.{ℕ, zero, suc, _+_, _-_, _≤_, _<_, _%_}
+use native.Mathlib.Omega.{arith}
+use native.Mathlib.Nat.{le-of-suc-le-suc, not-suc-le-zero}
+use lib.ListN.{length, getD}
+use lib.Dec.{eqb, leb, ltb}
+use borrow.Author.Tests.{lt-ltb, le-ltb, le-leb, leb-true, eq-eqb, ne-eqb}
+use Rattle.laws.specs.Choice.{if-case}
+use Rattle.wire.specs.Datagram.{ceiling}
+use Rattle.ring.specs.Ring.{capacity}
+use Rattle.receiving.specs.Receiving.{Cell, missing, byte, End, none, at, lead, lowOf, reach, highOf, of, mark, marked, cellAt, cellsFrom, cellsOf, endOf, endAt, receivingOf, Ranged, Sound, plausibleOf}
+use Rattle.receiving.specs.Receiving.{endedOf, ackPosition, ackCredit, refusalOf}
+use Rattle.receiving.specs.Calls.{refusal, endedBy, positionBy, creditBy}
+use Rattle.receiving.specs.CellLaws.{split, lead-is, reach-is}
+use Rattle.receiving.specs.declared.Scalars.{Scalars}
+
+marked-none : (k b : ℕ) → k ≡ 0 → marked k b ≡ missing
+unfolding marked
+marked-none zero b e = refl
+marked-none (suc k) b e = absurd (omega arith)
+
+marked-some : (k b : ℕ) → 0 < k → marked k b ≡ byte b
+unfolding marked
+marked-some zero b e = absurd (omega arith)
+marked-some (suc k) b e = refl
+
+module _ (f g : ℕ → ℕ) (low q : ℕ) where
+  pub cell-low : q < low → cellAt f g low q ≡ byte (f q)
+  unfolding cellAt
+  cell-low h = rw (lt-ltb q low h)
+
+  pub cell-missing : low ≤ q → g q ≡ 0 → cellAt f g low q ≡ missing
+  unfolding cellAt
+  cell-missing h k = rw (le-ltb q low h) (marked-none (g q) (f q) k)
+
+  pub cell-marked : low ≤ q → 0 < g q → cellAt f g low q ≡ byte (f q)
+  unfolding cellAt
+  cell-marked h k = rw (le-ltb q low h) (marked-some (g q) (f q) k)
+
+length-from : (f g : ℕ → ℕ) (low q n : ℕ) → length (cellsFrom f g low q n) ≡ n
+unfolding cellsFrom
+length-from f g low q zero = refl
+length-from f g low q (suc n) = ap suc (length-from f g low (suc q) n)
+
+from-at : (f g : ℕ → ℕ) (low q n i : ℕ) → i < n → getD (cellsFrom f g low q n) i missing ≡ cellAt f g low (q + i)
+unfolding cellsFrom
+from-at f g low q zero i h = absurd (not-suc-le-zero h)
+from-at f g low q (suc n) zero h = let e : q + 0 ≡ q = omega arith in rw e
+from-at f g low q (suc n) (suc i) h = let e : suc q + i ≡ q + suc i = omega arith in from-at f g low (suc q) n i (le-of-suc-le-suc h) ∙ ap (cellAt f g low) e
+
+module _ (f g : ℕ → ℕ) (taken low : ℕ) where
+  pub length-cells : length (cellsOf f g taken low) ≡ capacity
+  unfolding cellsOf
+  length-cells = length-from f g low taken capacity
+
+  pub cells-at : (i : ℕ) → i < capacity → getD (cellsOf f g taken low) i missing ≡ cellAt f g low (taken + i)
+  unfolding cellsOf
+  cells-at i h = from-at f g low taken capacity i h
+
+pub cell-same : (f g f′ g′ : ℕ → ℕ) (low q : ℕ) → f′ q ≡ f q → g′ q ≡ g q → cellAt f′ g′ low q ≡ cellAt f g low q
+unfolding cellAt
+cell-same f g f′ g′ low q x y = rw (x, y)
+
+-- low is the lowest missing position
+pub low-is : (s : Scalars) (r m : List ℕ) → Sound s r m → lowOf (receivingOf s r m) ≡ s .low
+unfolding lowOf receivingOf
+low-is s r m x =
+    let g = x .ranged in
+    let t : ℕ = s .taken in
+    let n : ℕ = s .low - s .taken in
+    let len = length-cells (of r) (mark m) t (s .low) in
+    let l : n ≤ length (cellsOf (of r) (mark m) t (s .low)) = omega arith in
+    let e : lead (cellsOf (of r) (mark m) t (s .low)) ≡ n =
+    lead-is n (cellsOf (of r) (mark m) t (s .low)) (λ i. of r (t + i)) l
+    (λ i h. cells-at (of r) (mark m) t (s .low) i (omega arith) ∙ cell-low (of r) (mark m) (s .low) (t + i) (omega arith))
+    (λ h. cells-at (of r) (mark m) t (s .low) n (omega arith) ∙ cell-missing (of r) (mark m) (s .low) (t + n) (omega arith) (x .clear .clear (t + n) (omega arith) (omega arith) (omega arith))) in
+    omega arith
+
+-- high is one more than the highest position that has arrived
+pub high-is : (s : Scalars) (r m : List ℕ) → Sound s r m → highOf (receivingOf s r m) ≡ s .high
+unfolding highOf receivingOf
+high-is s r m x =
+    let g = x .ranged in
+    let t : ℕ = s .taken in
+    let low : ℕ = s .low in
+    let n : ℕ = s .high - t in
+    let cs : List Cell = cellsOf (of r) (mark m) t low in
+    let len : length cs ≡ capacity = length-cells (of r) (mark m) t low in
+    let e : reach cs ≡ n =
+    reach-is n cs (of r (t + (n - 1))) (omega arith)
+    (λ i h k. cells-at (of r) (mark m) t low i (omega arith) ∙ cell-missing (of r) (mark m) low (t + i) (omega arith) (x .clear .beyond (t + i) (omega arith) (omega arith)))
+    (λ h. cells-at (of r) (mark m) t low (n - 1) (omega arith)
+    ∙ ⊎-elim (λ b. cell-low (of r) (mark m) low (t + (n - 1)) b)
+    (λ b.
+    let f : t + (n - 1) ≡ s .high - 1 = omega arith in
+    let z : 0 < mark m (s .high - 1) = x .clear .top (omega arith) in
+    let z′ : 0 < mark m (t + (n - 1)) = rw f z in
+    cell-marked (of r) (mark m) low (t + (n - 1)) b z′)
+    (split (t + (n - 1)) low)) in
+    omega arith
+
+-- scalars that may be an end's
+module _ (s : Scalars) where
+  pub plausible-taken : s .low < s .taken → false ≡ plausibleOf s
+  unfolding plausibleOf
+  plausible-taken h = rw (lt-ltb (s .low) (s .taken) h)
+
+  pub plausible-low : s .taken ≤ s .low → s .high < s .low → false ≡ plausibleOf s
+  unfolding plausibleOf
+  plausible-low h k = rw (le-ltb (s .low) (s .taken) h, lt-ltb (s .high) (s .low) k)
+
+  pub plausible-high : s .taken ≤ s .low → s .low ≤ s .high → ceiling < s .high → false ≡ plausibleOf s
+  unfolding plausibleOf
+  plausible-high h k l = rw (le-ltb (s .low) (s .taken) h, le-ltb (s .high) (s .low) k, lt-ltb ceiling (s .high) l)
+
+  pub plausible-limit : s .taken ≤ s .low → s .low ≤ s .high → s .high ≤ ceiling → leb (s .high) (s .taken + capacity) ≡ plausibleOf s
+  unfolding plausibleOf
+  plausible-limit h k l = rw (le-ltb (s .low) (s .taken) h, le-ltb (s .high) (s .low) k, le-ltb ceiling (s .high) l)
+
+  pub ranged-plausible : Ranged s → plausibleOf s ≡ true
+  ranged-plausible g = sym (plausible-limit (g .taken-low) (g .low-high) (g .high-small)) ∙ le-leb (s .high) (s .taken + capacity) (g .high-limit)
+
+  pub plausible-ranged : (r : Bool) → r ≡ plausibleOf s → r ≡ true → Ranged s
+  plausible-ranged r e t =
+      let f : false ≡ plausibleOf s → ⊥ = λ x. let z : false ≡ true = x ∙ sym e ∙ t in let z : _≡_ {A = ℕ} 0 1 = cc in omega arith in
+      ⊎-elim (λ h. absurd (f (plausible-taken h)))
+      (λ h.
+      ⊎-elim (λ k. absurd (f (plausible-low h k)))
+      (λ k.
+      ⊎-elim (λ l. absurd (f (plausible-high h k l)))
+      (λ l. record { taken-low = h; low-high = k; high-limit = leb-true (s .high) (s .taken + capacity) (plausible-limit h k l ∙ sym e ∙ t); high-small = l })
+      (split ceiling (s .high)))
+      (split (s .high) (s .low)))
+      (split (s .low) (s .taken))
+
+  pub sound-plausible : {ring marks : List ℕ} → Sound s ring marks → plausibleOf s ≡ true
+  sound-plausible x = ranged-plausible (x .ranged)
+
+-- the END, as it is kept
+pub end-some : (known e : ℕ) → (known ≡ 0 → ⊥) → endOf known e ≡ at e
+unfolding endOf
+end-some zero e h = absurd (h refl)
+end-some (suc k) e h = refl
+
+pub end-none : (known e : ℕ) → known ≡ 0 → endOf known e ≡ none
+unfolding endOf
+end-none known e h = rw h
+
+module _ (known e q : ℕ) where
+  pub end-at-none : known ≡ 0 → 0 ≡ endAt (endOf known e) q
+  unfolding endAt
+  end-at-none h = rw (end-none known e h)
+
+  pub end-at-here : (known ≡ 0 → ⊥) → e ≡ q → 1 ≡ endAt (endOf known e) q
+  unfolding endAt
+  end-at-here h k = rw (end-some known e h, eq-eqb e q k)
+
+  pub end-at-other : (known ≡ 0 → ⊥) → (e ≡ q → ⊥) → 0 ≡ endAt (endOf known e) q
+  unfolding endAt
+  end-at-other h k = rw (end-some known e h, ne-eqb e q k)
+
+pub end-at-small : (e : End) (q : ℕ) → endAt e q ≤ 1
+unfolding endAt
+end-at-small none q = omega arith
+end-at-small (at k) q = if-case (λ (n : ℕ). n ≤ 1) (eqb k q) (λ h. omega arith) (λ h. omega arith)
+
+-- an ACK's position and credit fit their fields, whatever the buffers hold
+pub position-small : {s : Scalars} → Ranged s → positionBy s ≤ ceiling + 1
+unfolding positionBy
+position-small {s} g = omega (arith, end-at-small (endOf (s .known) (s .end)) (s .low), g .low-high, g .high-small)
+
+pub credit-small : {s : Scalars} → Ranged s → creditBy s ≤ capacity
+unfolding creditBy positionBy
+credit-small {s} g = omega (arith, g .taken-low)
+
+-- what the calls answer from the scalars is what the definitions say of the receiving side
+pub ended-read : (s : Scalars) (ring marks : List ℕ) → endedBy s ≡ endedOf (receivingOf s ring marks)
+unfolding endedBy endedOf receivingOf
+ended-read s ring marks = refl
+
+module _ {s : Scalars} {ring marks : List ℕ} where
+  pub position-read : Sound s ring marks → positionBy s ≡ ackPosition (receivingOf s ring marks)
+  unfolding positionBy ackPosition receivingOf
+  position-read x = rw (low-is s ring marks x)
+
+  pub credit-read : Sound s ring marks → creditBy s ≡ ackCredit (receivingOf s ring marks)
+  unfolding creditBy ackCredit receivingOf
+  credit-read x = rw (position-read x)
+
+  pub refusal-read : Sound s ring marks → (p n e : ℕ) → refusal s p n e ≡ refusalOf (receivingOf s ring marks) p n e
+  unfolding refusal refusalOf receivingOf
+  refusal-read x p n e = rw (high-is s ring marks x)

@@ -1,0 +1,335 @@
+// 01 section 5: what has arrived, in a ring of bytes, with marks for what lies beyond the lowest missing position.
+ghost use mathlib.Core.Path.{_≡_};
+ghost use Prim.Native.Nat.{ℕ, _+_, _-_, _≤_, _<_, min, max};
+ghost use lib.ListN.{length};
+ghost use Rattle.wire.specs.Datagram.{ceiling};
+ghost use Rattle.ring.specs.Ring.{capacity};
+ghost use Rattle.receiving.specs.Receiving.{endOf, endAt, beyondOf, misplacedOf, Ranged, plausibleOf};
+ghost use Rattle.receiving.specs.Steps.{Written, Stored, Laid, Placed, Runs, Advanced};
+ghost use Rattle.receiving.specs.Calls.{Lent, Room, Starts, Fills, Hears, Takes, refusal, endedBy, positionBy, creditBy};
+use ring::CAPACITY;
+
+// 2^62: no byte stands at this position or above.
+const CEILING: u64 = 4611686018427387904;
+
+// Bytes below taken are with the host. low is the lowest missing position, high one more than the highest that has arrived, or taken. end is the END's position where known is not 0.
+pub struct Scalars {
+    pub taken: u64,
+    pub low: u64,
+    pub high: u64,
+    pub known: u64,
+    pub end: u64,
+}
+
+fn least(a: u64, b: u64) -> u64
+    ensures { λ r. ⌜ r ≡ min a b ⌝ }
+{
+    if a <= b { a } else { b }
+}
+
+fn most(a: u64, b: u64) -> u64
+    ensures { λ r. ⌜ r ≡ max a b ⌝ }
+{
+    if a <= b { b } else { a }
+}
+
+// Nothing has arrived and nothing is taken: clears every mark.
+pub fn start(marks: &mut [u8]) -> Scalars
+    requires { ⌜ length (now marks) ≡ capacity ⌝ }
+    ensures { λ r. ⌜ Starts (now (marks .entry)) (now (marks .exit)) r ⌝ }
+{
+    ring::fill(marks, 0);
+    Scalars {
+        taken: 0,
+        low: 0,
+        high: 0,
+        known: 0,
+        end: 0,
+    }
+}
+
+// Whether the scalars may be an end's.
+pub fn plausible(s: Scalars) -> bool
+    ensures { λ r. ⌜ r ≡ plausibleOf s ⌝ }
+{
+    if s.low < s.taken {
+        return false;
+    }
+    if s.high < s.low {
+        return false;
+    }
+    if CEILING < s.high {
+        return false;
+    }
+    s.high <= s.taken + CAPACITY as u64
+}
+
+// Bytes of src, which starts at position p, from position a on: straight into the ring.
+fn write(ring: &mut [u8], p: u64, src: &[u8], a: u64)
+    requires { ⌜ length (now ring) ≡ capacity ⌝ }
+    requires { ⌜ length (now src) ≤ capacity ⌝ }
+    requires { ⌜ (p ≤ a) × (a ≤ p + length (now src)) ⌝ }
+    ensures { λ _. ⌜ Written (now (ring .entry)) p (now (src .entry)) a (p + length (now (src .entry))) (now (ring .exit)) ⌝ }
+{
+    let k = (a - p) as usize;
+    ring::ring_put(ring, a, &src[k..]);
+}
+
+// Position by position, from a to b - 1: a byte of src goes where there is no mark.
+fn store(ring: &mut [u8], marks: &mut [u8], p: u64, src: &[u8], a: u64, b: u64)
+    requires { ⌜ (length (now ring) ≡ capacity) × (length (now marks) ≡ capacity) ⌝ }
+    requires { ⌜ ((p ≤ a) × (a ≤ b)) × ((b ≤ p + length (now src)) × (b ≤ a + capacity)) ⌝ }
+    ensures { λ _. ⌜ Stored (now (ring .entry)) (now (marks .entry)) p (now (src .entry)) a b (now (ring .exit)) (now (marks .exit)) ⌝ }
+{
+    let mut q = a;
+    while q < b {
+        let j = (q % CAPACITY as u64) as usize;
+        if marks[j] == 0 {
+            let k = (q - p) as usize;
+            ring[j] = src[k];
+            marks[j] = 1;
+        }
+        q += 1;
+    }
+}
+
+// The first position from low on without a mark, or top: no mark from top on is read.
+fn run(marks: &[u8], low: u64, top: u64) -> u64
+    requires { ⌜ length (now marks) ≡ capacity ⌝ }
+    requires { ⌜ ((low ≤ top) × (top ≤ low + capacity)) × (top ≤ ceiling) ⌝ }
+    ensures { λ r. ⌜ Runs (now (marks .entry)) low top r ⌝ }
+{
+    let at = (low % CAPACITY as u64) as usize;
+    let n = (top - low) as usize;
+    let room = CAPACITY - at;
+    if n <= room {
+        return low + ring::first_zero(&marks[at..at + n], 0) as u64;
+    }
+    let z = ring::first_zero(&marks[at..CAPACITY], 0);
+    if z < room {
+        return low + z as u64;
+    }
+    low + room as u64 + ring::first_zero(&marks[0..n - room], 0) as u64
+}
+
+// Passes and clears marks from low on, up to the first position without one, or top.
+fn advance(marks: &mut [u8], low: u64, top: u64) -> u64
+    requires { ⌜ length (now marks) ≡ capacity ⌝ }
+    requires { ⌜ ((low ≤ top) × (top ≤ low + capacity)) × (top ≤ ceiling) ⌝ }
+    ensures { λ r. ⌜ Advanced (now (marks .entry)) low top (now (marks .exit)) r ⌝ }
+{
+    let l = run(marks, low, top);
+    ring::ring_fill(marks, low, (l - low) as usize, 0);
+    l
+}
+
+// Positions a to the end of src, which starts at p: from edge on nothing has arrived.
+fn lay(ring: &mut [u8], marks: &mut [u8], p: u64, src: &[u8], a: u64, edge: u64)
+    requires { ⌜ (length (now ring) ≡ capacity) × (length (now marks) ≡ capacity) ⌝ }
+    requires { ⌜ ((p ≤ a) × (a ≤ edge)) × ((edge ≤ p + length (now src)) × (p + length (now src) ≤ a + capacity)) ⌝ }
+    requires { ⌜ (length (now src) ≤ capacity) × (p + length (now src) ≤ ceiling) ⌝ }
+    ensures { λ _. ⌜ Laid (now (ring .entry)) (now (marks .entry)) p (now (src .entry)) a edge (p + length (now (src .entry))) (now (ring .exit)) (now (marks .exit)) ⌝ }
+{
+    let n = (p + src.len() as u64 - edge) as usize;
+    write(ring, p, src, edge);
+    ring::ring_fill(marks, edge, n, 1);
+    store(ring, marks, p, src, a, edge);
+}
+
+// Every byte of src at low or above goes where it is missing: straight from high on, byte by byte below.
+fn place(ring: &mut [u8], marks: &mut [u8], p: u64, src: &[u8], low: u64, high: u64)
+    requires { ⌜ (length (now ring) ≡ capacity) × (length (now marks) ≡ capacity) ⌝ }
+    requires { ⌜ (low ≤ p + length (now src)) × (p + length (now src) ≤ low + capacity) ⌝ }
+    requires { ⌜ (length (now src) ≤ capacity) × (p + length (now src) ≤ ceiling) ⌝ }
+    ensures { λ _. ⌜ Placed (now (ring .entry)) (now (marks .entry)) p (now (src .entry)) low high (now (ring .exit)) (now (marks .exit)) ⌝ }
+{
+    let a = most(p, low);
+    let h = most(a, high);
+    let edge = least(h, p + src.len() as u64);
+    lay(ring, marks, p, src, a, edge);
+}
+
+// Out of order, or with a gap to close.
+fn slow(ring: &mut [u8], marks: &mut [u8], s: Scalars, p: u64, src: &[u8]) -> Scalars
+    requires { ⌜ Lent s (now ring) (now marks) ⌝ }
+    requires { ⌜ ((s .low < p + length (now src)) × (p + length (now src) ≤ s .taken + capacity)) × ((0 < length (now src)) × (length (now src) ≤ capacity)) ⌝ }
+    requires { ⌜ p + length (now src) ≤ ceiling ⌝ }
+    ensures { λ r. ⌜ Fills (now (ring .entry)) (now (marks .entry)) s p (now (src .entry)) (now (ring .exit)) (now (marks .exit)) r ⌝ }
+{
+    let top = most(s.high, p + src.len() as u64);
+    place(ring, marks, p, src, s.low, s.high);
+    let l = advance(marks, s.low, top);
+    Scalars {
+        taken: s.taken,
+        low: l,
+        high: top,
+        known: s.known,
+        end: s.end,
+    }
+}
+
+// A DATA's bytes. In order, with nothing beyond the lowest missing position, they are one copy, and no mark is touched.
+fn fill(ring: &mut [u8], marks: &mut [u8], s: Scalars, p: u64, src: &[u8]) -> Scalars
+    requires { ⌜ Lent s (now ring) (now marks) ⌝ }
+    requires { ⌜ Room s p (length (now src)) ⌝ }
+    ensures { λ r. ⌜ Fills (now (ring .entry)) (now (marks .entry)) s p (now (src .entry)) (now (ring .exit)) (now (marks .exit)) r ⌝ }
+{
+    if src.len() == 0 {
+        return s;
+    }
+    let e = p + src.len() as u64;
+    if e <= s.low {
+        return s;
+    }
+    if s.high <= s.low {
+        if p <= s.low {
+            write(ring, p, src, s.low);
+            return Scalars {
+                taken: s.taken,
+                low: e,
+                high: e,
+                known: s.known,
+                end: s.end,
+            };
+        }
+    }
+    slow(ring, marks, s, p, src)
+}
+
+// An accepted DATA: its bytes, and where e is 1 the END right after them.
+pub fn hear(ring: &mut [u8], marks: &mut [u8], s: Scalars, p: u64, src: &[u8], e: u64) -> Scalars
+    requires { ⌜ Lent s (now ring) (now marks) ⌝ }
+    requires { ⌜ Room s p (length (now src)) ⌝ }
+    ensures { λ r. ⌜ Hears (now (ring .entry)) (now (marks .entry)) s p (now (src .entry)) e (now (ring .exit)) (now (marks .exit)) r ⌝ }
+{
+    let t = fill(ring, marks, s, p, src);
+    if e == 1 {
+        return Scalars {
+            taken: t.taken,
+            low: t.low,
+            high: t.high,
+            known: 1,
+            end: p + src.len() as u64,
+        };
+    }
+    t
+}
+
+// 8 where one of n bytes from position p on may not be kept, 0 where all may.
+fn beyond(taken: u64, p: u64, n: u64) -> u64
+    requires { ⌜ taken ≤ ceiling ⌝ }
+    ensures { λ r. ⌜ r ≡ beyondOf taken p n ⌝ }
+{
+    if n == 0 {
+        return 0;
+    }
+    if CEILING < p {
+        return 8;
+    }
+    if CEILING - p < n {
+        return 8;
+    }
+    if taken + (CAPACITY as u64) < p + n {
+        return 8;
+    }
+    0
+}
+
+// 9 where n bytes that end before q, with an END there where e is 1, contradict what is known; else 0.
+fn misplaced(s: Scalars, q: u64, n: u64, e: u64) -> u64
+    ensures { λ r. ⌜ r ≡ misplacedOf (endOf (s .known) (s .end)) (s .high) q n e ⌝ }
+{
+    if s.known == 0 {
+        if e != 1 {
+            return 0;
+        }
+        if q < s.high {
+            return 9;
+        }
+        return 0;
+    }
+    if e == 1 {
+        if q != s.end {
+            return 9;
+        }
+        return 0;
+    }
+    if n == 0 {
+        return 0;
+    }
+    if s.end < q {
+        return 9;
+    }
+    0
+}
+
+// The refusal of a DATA of n bytes at position p, 8 or 9, or 0.
+pub fn judge(s: Scalars, p: u64, n: u64, e: u64) -> u64
+    requires { ⌜ Ranged s ⌝ }
+    ensures { λ r. ⌜ r ≡ refusal s p n e ⌝ }
+{
+    let b = beyond(s.taken, p, n);
+    if b != 0 {
+        return b;
+    }
+    misplaced(s, p + n, n, e)
+}
+
+// Hands up what is next in the stream, as much as out has room for.
+pub fn take(ring: &[u8], s: Scalars, out: &mut [u8]) -> Scalars
+    requires { ⌜ length (now ring) ≡ capacity ⌝ }
+    requires { ⌜ Ranged s ⌝ }
+    ensures { λ r. ⌜ Takes (now (ring .entry)) s (now (out .entry)) (now (out .exit)) r ⌝ }
+{
+    let n = least(out.len() as u64, s.low - s.taken);
+    let k = n as usize;
+    ring::ring_get(&mut out[0..k], ring, s.taken);
+    Scalars {
+        taken: s.taken + n,
+        low: s.low,
+        high: s.high,
+        known: s.known,
+        end: s.end,
+    }
+}
+
+// 1 where the END is known to be at q.
+fn end_at(s: Scalars, q: u64) -> u64
+    ensures { λ r. ⌜ r ≡ endAt (endOf (s .known) (s .end)) q ⌝ }
+{
+    if s.known == 0 {
+        return 0;
+    }
+    if s.end == q {
+        return 1;
+    }
+    0
+}
+
+// 1 where every byte before the END has been taken.
+pub fn ended(s: Scalars) -> u64
+    ensures { λ r. ⌜ r ≡ endedBy s ⌝ }
+{
+    end_at(s, s.taken)
+}
+
+// The position of an ACK.
+pub fn position(s: Scalars) -> u64
+    requires { ⌜ Ranged s ⌝ }
+    ensures { λ r. ⌜ r ≡ positionBy s ⌝ }
+{
+    s.low + end_at(s, s.low)
+}
+
+// The credit of an ACK.
+pub fn credit(s: Scalars) -> u64
+    requires { ⌜ Ranged s ⌝ }
+    ensures { λ r. ⌜ r ≡ creditBy s ⌝ }
+{
+    let limit = s.taken + CAPACITY as u64;
+    let p = position(s);
+    if limit < p {
+        return 0;
+    }
+    limit - p
+}
