@@ -31,6 +31,13 @@ sendingOf l p probed ring ends times = record {
   probed = wordOf probed;
 }
 
+-- a fresh one's scalars; its PROBE is the word 0
+unfoldable pub freshLine : Line
+freshLine = record { given = 0; closed = 0; limit = capacity }
+
+unfoldable pub freshRow : Row
+freshRow = record { acked = 0; next = 0; oldest = 0; kept = 0 }
+
 -- each segment starts where the one before it ends, the oldest at acked; none is empty, and none has more bytes than a DATA
 pub data Chain (acked given : ℕ) : List Segment → Type 0 where
   none : Chain acked given []

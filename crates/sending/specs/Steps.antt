@@ -75,9 +75,9 @@ unfoldable pub agoOf : Tick → Probed → Bool
 agoOf w never = true
 agoOf w (tick t) = leb (w .every) (w .now - t)
 
--- there are bytes not yet sent, nothing is kept, limit gives no room; and one more is allowed
-unfoldable pub probesOf : Tick → Line → Probed → Cut → Bool
-probesOf w l probed c = ltb (c .next) (l .given) && (eqb (length (c .kept)) 0 && (leb (l .limit) (c .next) && (agoOf w probed && ltb (length (c .sent)) (w .allowed))))
+-- there are bytes not yet sent, nothing is kept, limit gives no room; and one more than have left is allowed
+unfoldable pub probesOf : Tick → Line → Probed → ℕ → ℕ → ℕ → Bool
+probesOf w l probed next kept sent = ltb next (l .given) && (eqb kept 0 && (leb (l .limit) next && (ltb sent (w .allowed) && agoOf w probed)))
 
 -- what a tick sent, the segments, the next position and the last PROBE
 pub record Work : Type 0 where
@@ -88,7 +88,7 @@ pub record Work : Type 0 where
 
 unfoldable pub probeOf : Tick → Line → Probed → Cut → Work
 probeOf w l probed c =
-    if (probesOf w l probed c)
+    if (probesOf w l probed (c .next) (length (c .kept)) (length (c .sent)))
     (record { next = c .next; sent = PROBE (c .next) ∷ c .sent; kept = c .kept; probed = tick (w .now) })
     (record { next = c .next; sent = c .sent; kept = c .kept; probed = probed })
 
