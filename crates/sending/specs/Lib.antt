@@ -1,0 +1,12 @@
+pub mod Sending
+pub mod Giving
+pub mod Acking
+pub mod Steps
+pub mod Buffers
+pub mod Outcome
+pub mod Samples
+pub mod WireLaws
+pub mod SegmentLaws
+pub mod StepLaws
+pub mod GiveLaws
+pub mod AckLaws
