@@ -10,3 +10,5 @@ pub mod SegmentLaws
 pub mod StepLaws
 pub mod GiveLaws
 pub mod AckLaws
+pub mod OrderLaws
+pub mod BufferLaws
