@@ -4,4 +4,7 @@ pub mod Calls
 pub mod CellLaws
 pub mod ReadLaws
 pub mod RefusalLaws
+pub mod AckLaws
 pub mod Truth
+pub mod TruthLaws
+pub mod ReceivingLaws
