@@ -6,3 +6,5 @@ pub mod HistoryLaws
 pub mod Over
 pub mod OverLaws
 pub mod CopyLaws
+pub mod Part
+pub mod PartLaws
