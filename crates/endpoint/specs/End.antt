@@ -47,9 +47,6 @@ openOf epoch interval = record {
   receiving = receiving.fresh;
 }
 
--- 10: R is 1 to 65,535
-unfoldable pub intervalRow : ℕ → ℕ
-intervalRow interval = when (eqb interval 0) 10 orElse when (ltb 65535 interval) 10 orElse 0
 
 -- GIVE, FINISH: what is left of the end stays
 abbrev pub withSending : End → Sending → End

@@ -1,5 +1,4 @@
 // An end on lent buffers: the six calls of 01 section 1, for C and Rust.
+mod answer;
+mod ready;
 mod table;
-
-pub use table::Common;
-pub use table::Sends;

@@ -15,3 +15,9 @@ suc a orElse b = suc a
 unfoldable pub branch : Bool → ℕ → ℕ → ℕ
 branch true a b = a
 branch false a b = b
+
+-- both tests
+infixr 30 _and_
+unfoldable pub _and_ : Bool → Bool → Bool
+true and b = b
+false and b = false

@@ -4,9 +4,9 @@ use mathlib.Core.Bool.{Bool, true, false, not}
 use Prim.Native.Nat.{ℕ, zero, suc, _≤_, _<_}
 use native.Mathlib.Decide.{decLt, ℕ-discrete}
 use native.Mathlib.Omega.{arith}
-use lib.Dec.{eqb, ltb}
-use borrow.Author.Tests.{lt-ltb, le-ltb, eq-eqb, ne-eqb}
-use Rattle.laws.specs.Rows.{when, _orElse_, branch}
+use lib.Dec.{eqb, leb, ltb}
+use borrow.Author.Tests.{lt-ltb, le-ltb, lt-leb, le-leb, eq-eqb, ne-eqb}
+use Rattle.laws.specs.Rows.{when, _orElse_, branch, _and_}
 
 module _ (r n x : ℕ) where
   hit : (t : Bool) → t ≡ true → 0 < n → n ≡ when t n orElse x
@@ -93,3 +93,55 @@ passed-ne a b n p e = elim (ℕ-discrete a b) [
   | yes q ↦ q
   | no q ↦ absurd (omega (arith, rw (ne-eqb a b q) at e))
 ]
+
+-- TESTS
+pub and-left : (a b : Bool) → a and b ≡ true → a ≡ true
+unfolding _and_
+and-left true b e = refl
+and-left false b e = e
+
+pub and-right : (a b : Bool) → a and b ≡ true → b ≡ true
+unfolding _and_
+and-right true b e = e
+and-right false b e = let z : _≡_ {A = ℕ} 0 1 = cc in absurd (omega arith)
+
+pub both : (a b : Bool) → a ≡ true → b ≡ true → a and b ≡ true
+unfolding _and_
+both a b e f = rw (e, f)
+
+-- tests that were made one by one; r is the answer of those that are left
+module _ (x : Bool) where
+  pub and-fails : (a : Bool) → a ≡ false → false ≡ a and x
+  unfolding _and_
+  and-fails a e = rw e
+
+  pub and-passes : (r a : Bool) → a ≡ true → r ≡ x → r ≡ a and x
+  unfolding _and_
+  and-passes r a e f = rw e f
+
+  module _ (a b : ℕ) where
+    pub fails-eq : (a ≡ b → ⊥) → false ≡ eqb a b and x
+    fails-eq h = and-fails (eqb a b) (ne-eqb a b h)
+
+    pub fails-lt : b ≤ a → false ≡ ltb a b and x
+    fails-lt h = and-fails (ltb a b) (le-ltb a b h)
+
+    pub fails-le : b < a → false ≡ leb a b and x
+    fails-le h = and-fails (leb a b) (lt-leb a b h)
+
+    pub passes-eq : (r : Bool) → a ≡ b → r ≡ x → r ≡ eqb a b and x
+    passes-eq r h f = and-passes r (eqb a b) (eq-eqb a b h) f
+
+    pub passes-lt : (r : Bool) → a < b → r ≡ x → r ≡ ltb a b and x
+    passes-lt r h f = and-passes r (ltb a b) (lt-ltb a b h) f
+
+    pub passes-le : (r : Bool) → a ≤ b → r ≡ x → r ≡ leb a b and x
+    passes-le r h f = and-passes r (leb a b) (le-leb a b h) f
+
+pub ruleset tests = (fails-eq, fails-lt, fails-le, passes-eq, passes-lt, passes-le)
+
+-- two tests that hold where the same holds are one
+pub same-test : (a b : Bool) → (a ≡ true → b ≡ true) → (b ≡ true → a ≡ true) → a ≡ b
+same-test true b f g = sym (f refl)
+same-test false true f g = g refl
+same-test false false f g = refl
