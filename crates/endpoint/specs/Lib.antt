@@ -5,3 +5,7 @@ pub mod Rows
 pub mod ReadyLaws
 pub mod Answer
 pub mod AnswerLaws
+pub mod Streams
+pub mod StreamLaws
+pub mod Calls
+pub mod BecameLaws

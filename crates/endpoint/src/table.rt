@@ -96,7 +96,7 @@ pub fn scalars_in(t: &[u64]) -> Scalars
     load_scalars(&t[15..20])
 }
 
-fn save_common(w: &mut [u64], c: Common)
+pub fn save_common(w: &mut [u64], c: Common)
     requires { ⌜ length (now w) ≡ 7 ⌝ }
     ensures { λ _. ⌜ now (w .exit) ≡ commonWords c ⌝ }
 {
@@ -109,7 +109,7 @@ fn save_common(w: &mut [u64], c: Common)
     w[6] = c.high;
 }
 
-fn save_sends(w: &mut [u64], s: Sends)
+pub fn save_sends(w: &mut [u64], s: Sends)
     requires { ⌜ length (now w) ≡ 8 ⌝ }
     ensures { λ _. ⌜ now (w .exit) ≡ sendsWords s ⌝ }
 {
@@ -125,7 +125,7 @@ fn save_sends(w: &mut [u64], s: Sends)
     w[7] = s.probed;
 }
 
-fn save_scalars(w: &mut [u64], s: Scalars)
+pub fn save_scalars(w: &mut [u64], s: Scalars)
     requires { ⌜ length (now w) ≡ 5 ⌝ }
     ensures { λ _. ⌜ now (w .exit) ≡ scalarsWords s ⌝ }
 {

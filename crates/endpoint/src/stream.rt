@@ -1,0 +1,64 @@
+// The host's side of an end that is ready: give, finish and take.
+ghost use mathlib.Core.Path.{_≡_};
+ghost use Prim.Native.Nat.{ℕ, _≤_};
+ghost use lib.ListN.{length};
+ghost use Rattle.ring.specs.Ring.{capacity};
+ghost use Rattle.endpoint.specs.Layout.{tableWords, sectionsOf};
+ghost use Rattle.endpoint.specs.ReadyLaws.{Ready};
+ghost use Rattle.endpoint.specs.Streams.{Finished, Gave, Took};
+use sending::Line;
+use receiving::Scalars;
+use super::table::Sends;
+use super::table::save_scalars;
+use super::table::save_sends;
+use super::table::scalars_in;
+use super::table::sends_in;
+
+pub fn finish(t: &mut [u64])
+    requires { ⌜ (tableWords ≤ length (now t)) × Ready (sectionsOf (now t)) ⌝ }
+    ensures { λ _. ⌜ Finished (now (t .entry)) (now (t .exit)) ⌝ }
+{
+    let s = sends_in(t);
+    let row = s.row;
+    let line = sending::finish(s.line);
+    let v = Sends {
+        line: line,
+        row: row,
+        probed: s.probed,
+    };
+    save_sends(&mut t[7..15], v);
+}
+
+pub fn give(t: &mut [u64], outgoing: &mut [u8], bytes: &[u8]) -> u64
+    requires { ⌜ (tableWords ≤ length (now t)) × Ready (sectionsOf (now t)) ⌝ }
+    requires { ⌜ capacity ≤ length (now outgoing) ⌝ }
+    ensures { λ r. ⌜ Gave (now (t .entry)) (now (outgoing .entry)) (now (bytes .entry)) r (now (t .exit)) (now (outgoing .exit)) ⌝ }
+{
+    let s = sends_in(t);
+    let row = s.row;
+    let line = s.line;
+    let n = sending::give(&mut outgoing[0..65536], line, row.acked, bytes);
+    let longer = Line {
+        given: line.given + n,
+        closed: line.closed,
+        limit: line.limit,
+    };
+    let v = Sends {
+        line: longer,
+        row: row,
+        probed: s.probed,
+    };
+    save_sends(&mut t[7..15], v);
+    n
+}
+
+pub fn take(t: &mut [u64], incoming: &[u8], out: &mut [u8]) -> Scalars
+    requires { ⌜ (tableWords ≤ length (now t)) × Ready (sectionsOf (now t)) ⌝ }
+    requires { ⌜ capacity ≤ length (now incoming) ⌝ }
+    ensures { λ r. ⌜ Took (now (t .entry)) (now (incoming .entry)) (now (out .entry)) r (now (t .exit)) (now (out .exit)) ⌝ }
+{
+    let s = scalars_in(t);
+    let v = receiving::take(&incoming[0..65536], s, out);
+    save_scalars(&mut t[15..20], v);
+    v
+}
