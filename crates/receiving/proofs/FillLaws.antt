@@ -1,8 +1,8 @@
 -- What hear makes of the lent buffers, from its steps. Assumes nothing.
-use mathlib.Core.Path.{_≡_, refl, sym, _∙_, ap}
+use mathlib.Core.Path.{_≡_, refl, _∙_, ap}
 use mathlib.Core.Logic.{⊎-elim}
 use mathlib.Core.List.{List}
-use Prim.Native.Nat.{ℕ, _+_, _-_, _≤_, _<_, max}
+use Prim.Native.Nat.{ℕ, _+_, _≤_, _<_, max}
 use native.Mathlib.Omega.{arith}
 use lib.ListN.{length}
 use lib.Dec.{eqb}
@@ -10,9 +10,9 @@ use mathlib.Core.Bool.{true, false}
 use borrow.Author.Tests.{eq-eqb, ne-eqb}
 use Rattle.wire.specs.Datagram.{ceiling}
 use Rattle.ring.specs.Ring.{capacity}
-use Rattle.receiving.specs.Receiving.{Receiving, End, at, fillCells, fillOf, hearOf, endOf, of, mark, cellsOf, Ranged, Clear, Sound, receivingOf}
+use Rattle.receiving.specs.Receiving.{Receiving, at, fillCells, fillOf, hearOf, endOf, of, mark, cellsOf, Ranged, Sound, receivingOf}
 use Rattle.receiving.specs.Steps.{Written, Stored, Placed, Advanced, Unmarked}
-use Rattle.receiving.specs.Calls.{Lent, Room, Fills, Hears}
+use Rattle.receiving.specs.Calls.{Fills, Hears}
 use Rattle.receiving.proofs.FillingLaws.{filling-cells, lays-filling, moves-cells, order-filling, old-filling, none-filling, after-clear, after-beyond, after-top, follow-clear, follow-beyond, follow-top}
 use Rattle.receiving.specs.CellLaws.{split}
 use Rattle.receiving.specs.declared.Scalars.{Scalars}

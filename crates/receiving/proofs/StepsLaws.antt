@@ -1,8 +1,8 @@
 -- Laws of the steps, by position: none, one more, joined. Only here is it opened how a mark is kept. Assumes nothing.
-use mathlib.Core.Path.{_≡_, refl, sym, _∙_, ap}
-use mathlib.Core.Logic.{_⊎_, inl, inr, ⊎-elim}
-use mathlib.Core.List.{List, []}
-use Prim.Native.Nat.{ℕ, zero, suc, _+_, _-_, _≤_, _<_, _%_, min, max, zero-le}
+use mathlib.Core.Path.{_≡_, refl, sym, _∙_}
+use mathlib.Core.Logic.{⊎-elim}
+use mathlib.Core.List.{List}
+use Prim.Native.Nat.{ℕ, zero, _+_, _-_, _≤_, _<_, _%_, min, max}
 use native.Mathlib.Omega.{arith}
 use native.Mathlib.Nat.{le-antisymm}
 use lib.ListN.{length, getD, set, length-set, drop, length-drop, take, length-take, replicate, length-replicate, getD-replicate}
@@ -10,7 +10,7 @@ use lib.Seq.{getD-set-same, getD-set-other, getD-drop, getD-take}
 use Rattle.ring.specs.Ring.{capacity, Put, Zero, Blank}
 use Rattle.receiving.specs.Receiving.{of, mark}
 use Rattle.receiving.specs.CellLaws.{split}
-use Rattle.receiving.specs.Steps.{Same, Lays, Moves, Beside, Written, Stored, Laid, Placed, Runs, Advanced, Unmarked}
+use Rattle.receiving.specs.Steps.{Same, Beside, Written, Stored, Laid, Placed, Runs, Advanced, Unmarked}
 
 -- positions a .. b - 1 have v
 record Filled (m : List ℕ) (v a b : ℕ) (m′ : List ℕ) : Type 0 where

@@ -1,21 +1,18 @@
 -- Laws of refusals 8 and 9: each answer of the rows, and what an answer of 0 says. Assumes nothing.
-use mathlib.Core.Path.{_≡_, refl, sym, ap, _∙_}
-use mathlib.Core.Bool.{true, false, not}
-use mathlib.Core.List.{List}
-use Prim.Native.Nat.{ℕ, zero, suc, _+_, _-_, _≤_, _<_, _%_}
+use mathlib.Core.Path.{_≡_, refl, sym, _∙_}
+use mathlib.Core.Bool.{not}
+use Prim.Native.Nat.{ℕ, _+_, _-_, _≤_, _<_}
 use native.Mathlib.Omega.{arith}
 use mathlib.Core.Logic.{⊎-elim}
-use lib.ListN.{length}
 use lib.Dec.{eqb, ltb}
-use borrow.Author.Tests.{eq-eqb, ne-eqb, lt-ltb, le-ltb}
 use Rattle.laws.specs.Rows.{when, _orElse_, branch}
-use Rattle.laws.specs.RowsLaws.{row-left, row-right, hit-lt, miss-lt, hit-ne, miss-ne, then-eq, else-eq, hit-row, miss-row}
+use Rattle.laws.specs.RowsLaws.{row-left, hit-lt, miss-lt, hit-ne, miss-ne, then-eq, else-eq, hit-row, miss-row}
 use Rattle.wire.specs.Datagram.{ceiling, payloadMost}
 use Rattle.ring.specs.Ring.{capacity}
-use Rattle.receiving.specs.Receiving.{Receiving, End, none, at, endOf, beyondOf, misplacedOf, refusalBy, refusalOf, highOf, receivingOf, Sound}
+use Rattle.receiving.specs.Receiving.{none, at, endOf, beyondOf, misplacedOf, refusalBy}
 use Rattle.receiving.specs.Calls.{Room, refusal}
 use Rattle.receiving.specs.CellLaws.{split}
-use Rattle.receiving.specs.ReadLaws.{high-is, end-none, end-some}
+use Rattle.receiving.specs.ReadLaws.{end-none, end-some}
 use Rattle.receiving.specs.declared.Scalars.{Scalars}
 
 -- 8

@@ -1,10 +1,9 @@
 -- The definitions, computed: what arrives, what an ACK says, what is refused, and when the END is reported.
 use mathlib.Core.Path.{_≡_, refl}
-use mathlib.Core.List.{List, [], _∷_}
-use Prim.Native.Nat.{ℕ}
+use mathlib.Core.List.{[], _∷_}
 use lib.ListN.{replicate}
 use Rattle.laws.specs.Rows.{when, _orElse_, branch}
-use Rattle.receiving.specs.Receiving.{Cell, missing, byte, End, none, at, Receiving, first, lay, fillCells, fillOf, hearOf, lead, lowOf, up, reach, highOf, heads, gotOf, takeOf}
+use Rattle.receiving.specs.Receiving.{missing, byte, none, Receiving, first, lay, fillCells, fillOf, hearOf, lead, lowOf, up, reach, highOf, heads, takeOf}
 use Rattle.receiving.specs.Receiving.{endAt, endedOf, ackPosition, ackCredit, beyondOf, misplacedOf, refusalBy, refusalOf}
 
 -- 2 bytes taken, and the byte of position 3 has arrived

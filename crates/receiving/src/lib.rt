@@ -1,6 +1,6 @@
 // 01 section 5: what has arrived, in a ring of bytes, with marks for what lies beyond the lowest missing position.
 ghost use mathlib.Core.Path.{_≡_};
-ghost use Prim.Native.Nat.{ℕ, _+_, _-_, _≤_, _<_, min, max};
+ghost use Prim.Native.Nat.{_+_, _-_, _≤_, _<_, min, max};
 ghost use lib.ListN.{length};
 ghost use Rattle.wire.specs.Datagram.{ceiling};
 ghost use Rattle.ring.specs.Ring.{capacity};

@@ -6,7 +6,7 @@ use Prim.Native.Nat.{ℕ, zero, suc, _+_, _-_, _%_, _≤_, _<_, zero-le}
 use native.Mathlib.Omega.{arith}
 use lib.ListN.{length, take, drop, getD, replicate, length-replicate, List·getD-append}
 use lib.Seq.{getD-append-add, getD-take, getD-drop, length-take-le}
-use borrow.Rule.Slice.PartMut.{putMid, postOf, same-len-mid, mid-len}
+use borrow.Rule.Slice.PartMut.{putMid, postOf, same-len-mid}
 use Rattle.ring.specs.Ring.{capacity, Put, Got, Zero}
 
 split : (a b : ℕ) → (a < b) ⊎ (b ≤ a)
