@@ -6,3 +6,4 @@ pub mod HistoryLaws
 pub mod Over
 pub mod OverLaws
 pub mod CopyLaws
+pub mod Split

@@ -14,7 +14,7 @@ use Rattle.receiving.specs.Receiving.{Receiving, at, fillCells, fillOf, 
 use Rattle.receiving.specs.Steps.{Written, Stored, Placed, Advanced, Unmarked}
 use Rattle.receiving.specs.Calls.{Fills, Hears}
 use Rattle.receiving.proofs.FillingLaws.{filling-cells, lays-filling, moves-cells, order-filling, old-filling, none-filling, after-clear, after-beyond, after-top, follow-clear, follow-beyond, follow-top}
-use Rattle.receiving.specs.CellLaws.{split}
+use Rattle.laws.specs.Split.{split}
 use Rattle.receiving.specs.declared.Scalars.{Scalars}
 
 -- from cells to the whole

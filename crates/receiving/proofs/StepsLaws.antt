@@ -9,7 +9,7 @@ use lib.ListN.{length, getD, set, length-set, drop, length-drop, take, length-ta
 use lib.Seq.{getD-set-same, getD-set-other, getD-drop, getD-take}
 use Rattle.ring.specs.Ring.{capacity, Put, Zero, Blank}
 use Rattle.receiving.specs.Receiving.{of, mark}
-use Rattle.receiving.specs.CellLaws.{split}
+use Rattle.laws.specs.Split.{split}
 use Rattle.receiving.specs.Steps.{Same, Beside, Written, Stored, Laid, Placed, Runs, Advanced, Unmarked}
 
 -- positions a .. b - 1 have v

@@ -12,7 +12,8 @@ use Rattle.laws.specs.OverLaws.{over-none, over-more, over-length}
 use Rattle.ring.specs.Ring.{capacity, Got}
 use Rattle.receiving.specs.Receiving.{Cell, missing, byte, heads, gotOf, takeOf, fresh, endOf, of, mark, cellAt, cellsOf, Ranged, Sound, receivingOf}
 use Rattle.receiving.specs.Calls.{Takes, Starts}
-use Rattle.receiving.specs.CellLaws.{split, heads-is, past}
+use Rattle.laws.specs.Split.{split}
+use Rattle.receiving.specs.CellLaws.{heads-is, past}
 use Rattle.receiving.specs.ReadLaws.{cell-low, cell-missing, length-cells, cells-at}
 use Rattle.receiving.proofs.StepsLaws.{mark-turn, mark-none}
 use Rattle.receiving.specs.declared.Scalars.{Scalars}

@@ -12,7 +12,8 @@ use Rattle.laws.specs.RowsLaws.{row-right}
 use Rattle.ring.specs.Ring.{capacity}
 use Rattle.receiving.specs.Receiving.{Cell, missing, byte, End, none, at, Receiving, first, lay, fillCells, fillOf, hearOf, lead, lowOf, highOf, heads, gotOf, takeOf}
 use Rattle.receiving.specs.Receiving.{endAt, ackPosition, ackCredit, beyondOf, misplacedOf, refusalBy, refusalOf}
-use Rattle.receiving.specs.CellLaws.{split, length-fill}
+use Rattle.laws.specs.Split.{split}
+use Rattle.receiving.specs.CellLaws.{length-fill}
 use Rattle.receiving.specs.ReadLaws.{end-at-small}
 use Rattle.receiving.specs.RefusalLaws.{known-elsewhere}
 

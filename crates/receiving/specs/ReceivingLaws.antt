@@ -15,7 +15,8 @@ use Rattle.wire.specs.Datagram.{ceiling}
 use Rattle.ring.specs.Ring.{capacity}
 use Rattle.receiving.specs.Receiving.{missing, End, none, at, Receiving, fresh, fillOf, hearOf, lowOf, reach, highOf, heads, gotOf, takeOf}
 use Rattle.receiving.specs.Receiving.{endAt, endedOf, ackPosition, ackCredit, beyondOf, misplacedOf, refusalBy, refusalOf}
-use Rattle.receiving.specs.CellLaws.{split, length-fill}
+use Rattle.laws.specs.Split.{split}
+use Rattle.receiving.specs.CellLaws.{length-fill}
 use Rattle.receiving.specs.ReadLaws.{end-at-small}
 use Rattle.receiving.specs.RefusalLaws.{beyond-none, beyond-within, unknown-after, unknown-none, known-there, known-none}
 use Rattle.receiving.specs.AckLaws.{taken-low, size-take, low-room, got-length, taken-take, end-take, ack-says}

@@ -11,7 +11,7 @@ use Rattle.laws.specs.History.At.{here, there}
 use Rattle.laws.specs.History.Says.{none, more}
 use Rattle.laws.specs.HistoryLaws.{at-grow, says-at, says-drop, says-prefix}
 use Rattle.receiving.specs.Receiving.{Cell, missing, byte, first, lay, fillCells, lead, up, reach, heads}
-use Rattle.receiving.specs.CellLaws.{split}
+use Rattle.laws.specs.Split.{split}
 use Rattle.receiving.specs.Truth.{Fits}
 use Rattle.receiving.specs.Truth.Fits.{end, skip, fill}
 
