@@ -9,3 +9,4 @@ pub mod Streams
 pub mod StreamLaws
 pub mod Calls
 pub mod BecameLaws
+pub mod OutcomeLaws

@@ -3,3 +3,50 @@ mod answer;
 mod ready;
 mod stream;
 mod table;
+
+ghost use Rattle.endpoint.specs.Calls.{Gives, Finishes, Takes};
+use answer::refusal;
+use answer::value;
+use ready::CAPACITY;
+use ready::ready;
+use table::scalars_in;
+
+// give bytes: takes as many of them, from the first on, as there is room for, and answers how many.
+#[no_mangle]
+pub extern "C" fn sluice_give(table: &mut [u64], outgoing: &mut [u8], bytes: &[u8]) -> i64
+    ensures { λ r. ⌜ Gives (now (table .entry)) (now (outgoing .entry)) (now (bytes .entry)) r (now (table .exit)) (now (outgoing .exit)) ⌝ }
+{
+    let no = ready(table, outgoing.len(), CAPACITY);
+    if no != 0 {
+        return refusal(no);
+    }
+    value(stream::give(table, outgoing, bytes))
+}
+
+// finish: no more bytes will be given.
+#[no_mangle]
+pub extern "C" fn sluice_finish(table: &mut [u64]) -> i64
+    ensures { λ r. ⌜ Finishes (now (table .entry)) r (now (table .exit)) ⌝ }
+{
+    let no = ready(table, CAPACITY, CAPACITY);
+    if no != 0 {
+        return refusal(no);
+    }
+    stream::finish(table);
+    value(0)
+}
+
+// take: hands up as many of the bytes that are next as out has room for, and answers how many; *ended is 1 where the END has been reached.
+#[no_mangle]
+pub extern "C" fn sluice_take(table: &mut [u64], incoming: &[u8], out: &mut [u8], ended: &mut u8) -> i64
+    ensures { λ r. ⌜ Takes (now (table .entry)) (now (incoming .entry)) (now (out .entry)) (now (ended .entry)) r (now (table .exit)) (now (out .exit)) (now (ended .exit)) ⌝ }
+{
+    let no = ready(table, incoming.len(), CAPACITY);
+    if no != 0 {
+        return refusal(no);
+    }
+    let before = scalars_in(table);
+    let after = stream::take(table, incoming, out);
+    *ended = receiving::ended(after) as u8;
+    value(after.taken - before.taken)
+}

@@ -8,3 +8,4 @@ pub mod OverLaws
 pub mod CopyLaws
 pub mod Part
 pub mod PartLaws
+pub mod Split

@@ -1,8 +1,8 @@
 -- What hear makes of the lent buffers, from its steps. Assumes nothing.
-use mathlib.Core.Path.{_≡_, refl, sym, _∙_, ap}
+use mathlib.Core.Path.{_≡_, refl, _∙_, ap}
 use mathlib.Core.Logic.{⊎-elim}
 use mathlib.Core.List.{List}
-use Prim.Native.Nat.{ℕ, _+_, _-_, _≤_, _<_, max}
+use Prim.Native.Nat.{ℕ, _+_, _≤_, _<_, max}
 use native.Mathlib.Omega.{arith}
 use lib.ListN.{length}
 use lib.Dec.{eqb}
@@ -10,11 +10,11 @@ use mathlib.Core.Bool.{true, false}
 use borrow.Author.Tests.{eq-eqb, ne-eqb}
 use Rattle.wire.specs.Datagram.{ceiling}
 use Rattle.ring.specs.Ring.{capacity}
-use Rattle.receiving.specs.Receiving.{Receiving, End, at, fillCells, fillOf, hearOf, endOf, of, mark, cellsOf, Ranged, Clear, Sound, receivingOf}
-use Rattle.receiving.specs.Steps.{Written, Stored, Placed, Advanced}
-use Rattle.receiving.specs.Calls.{Lent, Room, Fills, Hears}
-use Rattle.receiving.proofs.FillingLaws.{filling-cells, lays-filling, moves-cells, order-filling, old-filling, none-filling, after-clear, after-beyond, after-top}
-use Rattle.receiving.specs.CellLaws.{split}
+use Rattle.receiving.specs.Receiving.{Receiving, at, fillCells, fillOf, hearOf, endOf, of, mark, cellsOf, Ranged, Sound, receivingOf}
+use Rattle.receiving.specs.Steps.{Written, Stored, Placed, Advanced, Unmarked}
+use Rattle.receiving.specs.Calls.{Fills, Hears}
+use Rattle.receiving.proofs.FillingLaws.{filling-cells, lays-filling, moves-cells, order-filling, old-filling, none-filling, after-clear, after-beyond, after-top, follow-clear, follow-beyond, follow-top}
+use Rattle.laws.specs.Split.{split}
 use Rattle.receiving.specs.declared.Scalars.{Scalars}
 
 -- from cells to the whole
@@ -25,8 +25,8 @@ filled-read r m bs r′ m′ s p low high e = rw e
 
 pub fast-fills : {r bs r′ : List ℕ} {s : Scalars} {p : ℕ} (m : List ℕ) → Ranged s → Written r p bs (s .low) (p + length bs) r′ → s .high ≤ s .low → p ≤ s .low
     → s .low < p + length bs
-    → length bs ≤ s .taken + capacity - p
-    → length bs ≤ ceiling - p
+    → p + length bs ≤ s .taken + capacity
+    → p + length bs ≤ ceiling
     → Fills r m s p bs r′ m (record { taken = s .taken; low = p + length bs; high = p + length bs; known = s .known; end = s .end })
 fast-fills {r} {bs} {r′} {s} {p} m g w hh le hi n₁ n₂ =
     let e : ℕ = p + length bs in
@@ -45,7 +45,7 @@ fast-fills {r} {bs} {r′} {s} {p} m g w hh le hi n₁ n₂ =
         marks-size = x .marks-size;
         clear = record { clear = λ q l k h. zeros x q l h; beyond = λ q l h. zeros x q (omega arith) h; top = λ h. absurd (omega arith) };
       };
-      read = λ x. filled-read r m bs r′ m s p e e (filling-cells (order-filling (mark m) (w .beside .same) (w .into) (zeros x) (g .taken-low) le (omega arith) up));
+      read = λ x. filled-read r m bs r′ m s p e e (filling-cells (order-filling (mark m) (w .beside .same) (w .into) (λ q lo hi. zeros x q (omega arith) (omega arith)) (g .taken-low) le (omega arith) up));
     }
 
 pub old-fills : {r m bs : List ℕ} {s : Scalars} {p : ℕ} → Ranged s → p + length bs ≤ s .low → Fills r m s p bs r m s
@@ -96,6 +96,36 @@ slow-fills {r} {m} {r₁} {m₁} {m′} {bs} {s} {p} {top} {l} g la ad et new so
           filled-read r m bs r₁ m′ s p l top
           (moves-cells (of r₁) (s .taken) (ad .moves) (g .taken-low) (omega arith)
           ∙ filling-cells (lays-filling (st x .lays) refl (omega arith) (g .taken-low) up));
+    }
+
+-- in order, with bytes beyond
+pub follow-fills : {r m r′ m′ bs : List ℕ} {s : Scalars} {p top l : ℕ} → Ranged s → Written r p bs (s .low) (p + length bs) r′ → Unmarked m (s .low) (p + length bs) 0
+    → Advanced m (p + length bs) top m′ l
+    → top ≡ max (s .high) (p + length bs) → p ≤ s .low → s .low < p + length bs → p + length bs ≤ s .taken + capacity → p + length bs ≤ ceiling
+    → Fills r m s p bs r′ m′ (record { taken = s .taken; low = l; high = top; known = s .known; end = s .end })
+follow-fills {r} {m} {r′} {m′} {bs} {s} {p} {top} {l} g w free ad et le new up small =
+    let e : ℕ = p + length bs in
+    let u = ad .moves .low-l in
+    let v = ad .moves .l-top in
+    let ranged : Ranged (record { taken = s .taken; low = l; high = top; known = s .known; end = s .end }) =
+    record { taken-low = omega arith; low-high = omega arith; high-limit = omega arith; high-small = omega arith } in record {
+      ring-same = w .beside .length-same;
+      marks-same = ad .marks-same;
+      ranged = ranged;
+      done = λ x. record {
+        ranged = ranged;
+        ring-size = w .beside .length-same ∙ x .ring-size;
+        marks-size = ad .marks-same ∙ x .marks-size;
+        clear = record {
+          clear = follow-clear s (mark m) (mark m′) e l top g (x .clear) (free .none refl) (ad .moves) et new up;
+          beyond = follow-beyond s (mark m) (mark m′) e l top g (x .clear) (free .none refl) (ad .moves) et new up;
+          top = follow-top s (mark m) (mark m′) e l top g (x .clear) (free .none refl) (ad .moves) et new up;
+        };
+      };
+      read = λ x.
+          filled-read r m bs r′ m′ s p l top
+          (moves-cells (of r′) (s .taken) (ad .moves) (omega arith) (omega arith)
+          ∙ filling-cells (order-filling (mark m) (w .beside .same) (w .into) (free .none refl) (g .taken-low) le (omega arith) up));
     }
 
 -- a DATA with END

@@ -1,15 +1,16 @@
 -- What a step does to the cells, for any bytes f and marks g by position: rings and stretches alike. Assumes nothing.
 use mathlib.Core.Path.{_≡_, refl, sym, _∙_, ap}
 use mathlib.Core.Logic.{_⊎_, inl, inr, ⊎-elim}
-use mathlib.Core.List.{List, [], _∷_, _++_}
-use Prim.Native.Nat.{ℕ, zero, suc, _+_, _-_, _≤_, _<_, _%_, min, max}
+use mathlib.Core.List.{List}
+use Prim.Native.Nat.{ℕ, _+_, _-_, _≤_, _<_, max}
 use native.Mathlib.Omega.{arith}
 use lib.ListN.{length, getD}
 use lib.Seq.{ext-getD}
 use Rattle.ring.specs.Ring.{capacity}
 use Rattle.receiving.specs.Receiving.{Cell, missing, byte, first, fillCells, cellAt, cellsOf, Ranged, Clear}
 use Rattle.receiving.specs.Steps.{Same, Lays, Moves}
-use Rattle.receiving.specs.CellLaws.{split, length-fill, fill-before, fill-in, fill-after}
+use Rattle.laws.specs.Split.{split}
+use Rattle.receiving.specs.CellLaws.{length-fill, fill-before, fill-in, fill-after}
 use Rattle.receiving.specs.ReadLaws.{cell-low, cell-missing, cell-marked, cell-same, length-cells, cells-at}
 use Rattle.receiving.specs.declared.Scalars.{Scalars}
 
@@ -96,9 +97,9 @@ moves-cells {g} {g′} {low} {top} {l} f t a lo up =
     (split (t + i) l)
     ∙ sym (cells-at f g t low i k))
 
--- in order, with no mark in the window
+-- in order, and no position has a mark
 pub order-filling : {f f′ : ℕ → ℕ} {bs : List ℕ} {t low p : ℕ} (g : ℕ → ℕ) → Same f low (p + length bs) f′
-    → ((q : ℕ) → low ≤ q → q < p + length bs → f′ q ≡ getD bs (q - p) 0) → ((q : ℕ) → t ≤ q → q < t + capacity → g q ≡ 0)
+    → ((q : ℕ) → low ≤ q → q < p + length bs → f′ q ≡ getD bs (q - p) 0) → ((q : ℕ) → low ≤ q → q < p + length bs → g q ≡ 0)
     → t ≤ low → p ≤ low → low ≤ p + length bs → p + length bs ≤ t + capacity
     → Fillings f g t low p bs f′ g (p + length bs)
 order-filling {f} {f′} {bs} {t} {low} {p} g w into z lo le hi up = record {
@@ -111,9 +112,14 @@ order-filling {f} {f′} {bs} {t} {low} {p} g w into z lo le hi up = record {
       (λ b.
       let e : f′ q ≡ f q = w .below q b (omega arith) in
       ap byte e ∙ sym (first-byte (f q) (getD bs (q - p) 0) (cell-low f g low q b)))
-      (λ b. ap byte (into q b y) ∙ sym (first-missing (getD bs (q - p) 0) (cell-missing f g low q b (z q l h))))
+      (λ b. ap byte (into q b y) ∙ sym (first-missing (getD bs (q - p) 0) (cell-missing f g low q b (z q b y))))
       (split q low);
-  after = λ q l h x. cell-missing f′ g (p + length bs) q x (z q l h) ∙ sym (cell-missing f g low q (omega arith) (z q l h));
+  after = λ q l h x.
+      let e : f′ q ≡ f q = w .above q x (omega arith) in
+      let b : low ≤ q = omega arith in
+      ⊎-elim (λ y. let n : g q ≡ 0 = omega arith in cell-missing f′ g (p + length bs) q x n ∙ sym (cell-missing f g low q b n))
+      (λ y. cell-marked f′ g (p + length bs) q x y ∙ ap byte e ∙ sym (cell-marked f g low q b y))
+      (split (g q) 1);
 }
 
 -- nothing new
@@ -174,3 +180,38 @@ module _ (s : Scalars) (f g f₁ g₁ g′ : ℕ → ℕ) (bs : List ℕ) (p a l
       let z′ : 0 < g (top - 1) = rw e z in
       omega arith)
       (split (top - 1) (p + length bs))
+
+-- the marks after bytes in order and an advance from their end
+module _ (s : Scalars) (g g′ : ℕ → ℕ) (e l top : ℕ) (rg : Ranged s) (x : Clear s g) (free : (q : ℕ) → s .low ≤ q → q < e → g q ≡ 0) (ad : Moves g e top g′ l) (et : top ≡ max (s .high) e)
+    (new : s .low < e) (up : e ≤ s .taken + capacity) where
+  pub follow-clear : (q : ℕ) → s .taken ≤ q → q ≤ l → q < s .taken + capacity → g′ q ≡ 0
+  follow-clear q lo le hi =
+      let u = ad .low-l in
+      let v = ad .l-top in
+      ⊎-elim
+      (λ b.
+      ad .same .below q b (omega arith)
+      ∙ ⊎-elim (λ c. x .clear q lo (omega arith) hi) (λ c. free q c b) (split q (s .low)))
+      (λ b.
+      ⊎-elim (λ c. ad .cleared q b c)
+      (λ c.
+      let i : q ≡ l = omega arith in
+      let k : g′ q ≡ g q = ad .same .above q c (omega arith) in
+      ⊎-elim (λ d. k ∙ rw i (ad .stop d)) (λ d. k ∙ x .beyond q (omega arith) hi) (split l top))
+      (split q l))
+      (split q e)
+
+  pub follow-beyond : (q : ℕ) → top ≤ q → q < s .taken + capacity → g′ q ≡ 0
+  follow-beyond q lo hi =
+      let u = ad .low-l in
+      let v = ad .l-top in
+      ad .same .above q (omega arith) (omega arith) ∙ x .beyond q (omega arith) hi
+
+  pub follow-top : l < top → 0 < g′ (top - 1)
+  follow-top h =
+      let u = ad .low-l in
+      let k : g′ (top - 1) ≡ g (top - 1) = ad .same .above (top - 1) (omega arith) (omega arith) in
+      let i : top - 1 ≡ s .high - 1 = omega arith in
+      let z : 0 < g (s .high - 1) = x .top (omega arith) in
+      let y : 0 < g (top - 1) = rw i z in
+      omega arith

@@ -2,3 +2,4 @@ pub mod StepsLaws
 pub mod FillingLaws
 pub mod FillLaws
 pub mod TakeLaws
+pub mod JudgeLaws

@@ -1,16 +1,16 @@
 -- Laws of the steps, by position: none, one more, joined. Only here is it opened how a mark is kept. Assumes nothing.
-use mathlib.Core.Path.{_≡_, refl, sym, _∙_, ap}
-use mathlib.Core.Logic.{_⊎_, inl, inr, ⊎-elim}
-use mathlib.Core.List.{List, []}
-use Prim.Native.Nat.{ℕ, zero, suc, _+_, _-_, _≤_, _<_, _%_, min, max, zero-le}
+use mathlib.Core.Path.{_≡_, refl, sym, _∙_}
+use mathlib.Core.Logic.{⊎-elim}
+use mathlib.Core.List.{List}
+use Prim.Native.Nat.{ℕ, zero, _+_, _-_, _≤_, _<_, _%_, min, max}
 use native.Mathlib.Omega.{arith}
 use native.Mathlib.Nat.{le-antisymm}
 use lib.ListN.{length, getD, set, length-set, drop, length-drop, take, length-take, replicate, length-replicate, getD-replicate}
 use lib.Seq.{getD-set-same, getD-set-other, getD-drop, getD-take}
-use Rattle.ring.specs.Ring.{capacity, Put, Zero}
+use Rattle.ring.specs.Ring.{capacity, Put, Zero, Blank}
 use Rattle.receiving.specs.Receiving.{of, mark}
-use Rattle.receiving.specs.CellLaws.{split}
-use Rattle.receiving.specs.Steps.{Same, Lays, Moves, Beside, Written, Stored, Laid, Placed, Runs, Advanced}
+use Rattle.laws.specs.Split.{split}
+use Rattle.receiving.specs.Steps.{Same, Beside, Written, Stored, Laid, Placed, Runs, Advanced, Unmarked}
 
 -- positions a .. b - 1 have v
 record Filled (m : List ℕ) (v a b : ℕ) (m′ : List ℕ) : Type 0 where
@@ -125,6 +125,46 @@ runs-across {m} {low} {top} {z} {y} f₀ g₀ h ge up n =
           (split q (low + (capacity - low % capacity)));
       stop = λ k. let i : (low + (capacity - low % capacity) + y) % capacity ≡ 0 + y = omega arith in rw i (g .found (omega arith));
     }
+
+-- no mark in low .. top - 1: the same three ways
+blank-at : (m : List ℕ) (a k : ℕ) {r : ℕ} → Blank (take k (drop a m)) r → a + k ≤ length m → r ≡ 0 → (j : ℕ) → j < k → getD m (a + j) 0 ≡ 0
+blank-at m a k f fits e j h =
+    let l : length (take k (drop a m)) ≡ k = simp (length-take, length-drop) (omega arith) in
+    sym (getD-take k (drop a m) j 0 h ∙ getD-drop a m j 0) ∙ f .zero e j (omega arith)
+
+pub unmarked-straight : {m : List ℕ} {a b r : ℕ} → Blank (take (a % capacity + (b - a) - a % capacity) (drop (a % capacity) m)) r
+    → b - a ≤ capacity - a % capacity → a ≤ b → length m ≡ capacity
+    → Unmarked m a b r
+unfolding of mark
+unmarked-straight {m} {a} {b} {r} f h le n = record {
+  none = λ e q lo hi.
+      let i : q % capacity ≡ a % capacity + (q - a) = omega arith in
+      rw i (blank-at m (a % capacity) (a % capacity + (b - a) - a % capacity) f (omega arith) e (q - a) (omega arith));
+}
+
+pub unmarked-not : {m : List ℕ} {a b : ℕ} → Unmarked m a b 1
+unmarked-not = record { none = λ e. absurd (omega arith) }
+
+pub unmarked-across : {m : List ℕ} {a b z r : ℕ} → Blank (take (capacity - a % capacity) (drop (a % capacity) m)) z → z ≡ 0
+    → Blank (take (b - a - (capacity - a % capacity) - 0) (drop 0 m)) r
+    → capacity - a % capacity < b - a → b ≤ a + capacity → length m ≡ capacity
+    → Unmarked m a b r
+unfolding of mark
+unmarked-across {m} {a} {b} {z} {r} f y g h up n = record {
+  none = λ e q lo hi.
+      ⊎-elim
+      (λ c.
+      let i : q % capacity ≡ a % capacity + (q - a) = omega arith in
+      rw i (blank-at m (a % capacity) (capacity - a % capacity) f (omega arith) y (q - a) (omega arith)))
+      (λ c.
+      let j : ℕ = q - a - (capacity - a % capacity) in
+      let i : q % capacity ≡ 0 + j = omega arith in
+      rw i (blank-at m 0 (b - a - (capacity - a % capacity) - 0) g (omega arith) e j (omega arith)))
+      (split q (a + (capacity - a % capacity)));
+}
+
+pub unmarked-zero : {m : List ℕ} {a b r : ℕ} → Unmarked m a b r → r ≡ 0 → Unmarked m a b 0
+unmarked-zero u e = rw e at u
 
 pub stored-none : {r m bs : List ℕ} {p a : ℕ} → Stored r m p bs a a r m
 stored-none = record {

@@ -1,19 +1,20 @@
 -- What start and take make of the lent buffers. Assumes nothing.
 use mathlib.Core.Path.{_≡_, refl, sym, _∙_, ap}
-use mathlib.Core.Logic.{_⊎_, inl, inr, ⊎-elim}
-use mathlib.Core.List.{List, [], _∷_, _++_}
-use Prim.Native.Nat.{ℕ, zero, suc, _+_, _-_, _≤_, _<_, _%_, min, max}
+use mathlib.Core.Logic.{⊎-elim}
+use mathlib.Core.List.{List, _++_}
+use Prim.Native.Nat.{ℕ, _+_, _-_, _≤_, _<_, min}
 use native.Mathlib.Omega.{arith}
-use lib.ListN.{length, getD, take, drop, replicate, length-append, length-drop, length-replicate, getD-replicate, List·getD-append, List·getD-eq-default}
+use lib.ListN.{length, getD, drop, replicate, length-append, length-drop, length-replicate, getD-replicate, List·getD-append, List·getD-eq-default}
 use lib.Seq.{ext-getD, getD-drop}
 use borrow.Rule.Slice.PartMut.{putMid}
 use Rattle.laws.specs.Over.{Over}
 use Rattle.laws.specs.OverLaws.{over-none, over-more, over-length}
 use Rattle.ring.specs.Ring.{capacity, Got}
-use Rattle.receiving.specs.Receiving.{Cell, missing, byte, heads, gotOf, takeOf, fresh, endOf, Receiving, of, mark, cellAt, cellsOf, Ranged, Sound, receivingOf}
+use Rattle.receiving.specs.Receiving.{Cell, missing, byte, heads, gotOf, takeOf, fresh, endOf, of, mark, cellAt, cellsOf, Ranged, Sound, receivingOf}
 use Rattle.receiving.specs.Calls.{Takes, Starts}
-use Rattle.receiving.specs.CellLaws.{split, heads-is, past}
-use Rattle.receiving.specs.ReadLaws.{cell-low, cell-missing, cell-marked, length-cells, cells-at}
+use Rattle.laws.specs.Split.{split}
+use Rattle.receiving.specs.CellLaws.{heads-is, past}
+use Rattle.receiving.specs.ReadLaws.{cell-low, cell-missing, length-cells, cells-at}
 use Rattle.receiving.proofs.StepsLaws.{mark-turn, mark-none}
 use Rattle.receiving.specs.declared.Scalars.{Scalars}
 

@@ -1,6 +1,6 @@
 -- Laws of an ACK's position and credit: they never fall, DATA at the lowest missing position moves it, and take leaves it. Assumes nothing.
-use Prim.Native.Nat.{ℕ, zero, suc, _+_, _-_, _≤_, _<_, min, max}
-use mathlib.Core.Path.{_≡_, refl, ap, sym, _∙_}
+use Prim.Native.Nat.{ℕ, zero, suc, _+_, _-_, _≤_, min, max}
+use mathlib.Core.Path.{_≡_, refl, ap}
 use mathlib.Core.Logic.{⊎-elim}
 use mathlib.Core.List.{List, [], _∷_, _++_}
 use native.Mathlib.Omega.{arith}
@@ -11,8 +11,9 @@ use Rattle.laws.specs.Choice.{if, if-case}
 use Rattle.laws.specs.RowsLaws.{row-right}
 use Rattle.ring.specs.Ring.{capacity}
 use Rattle.receiving.specs.Receiving.{Cell, missing, byte, End, none, at, Receiving, first, lay, fillCells, fillOf, hearOf, lead, lowOf, highOf, heads, gotOf, takeOf}
-use Rattle.receiving.specs.Receiving.{endAt, endedOf, ackPosition, ackCredit, beyondOf, misplacedOf, refusalBy, refusalOf}
-use Rattle.receiving.specs.CellLaws.{split, length-fill}
+use Rattle.receiving.specs.Receiving.{endAt, ackPosition, ackCredit, beyondOf, misplacedOf, refusalBy, refusalOf}
+use Rattle.laws.specs.Split.{split}
+use Rattle.receiving.specs.CellLaws.{length-fill}
 use Rattle.receiving.specs.ReadLaws.{end-at-small}
 use Rattle.receiving.specs.RefusalLaws.{known-elsewhere}
 
@@ -172,6 +173,10 @@ end-hears (at k) high q n e a b z h =
     (split q k))
     (λ t. position-up (at k) a b h)
 
+limit-is : (w : Receiving) → ackPosition w + ackCredit w ≡ max (w .taken + capacity) (ackPosition w)
+unfolding ackCredit
+limit-is w = omega arith
+
 module _ (v : Receiving) where
   pub position-low : lowOf v ≤ ackPosition v
   unfolding ackPosition
@@ -179,8 +184,7 @@ module _ (v : Receiving) where
 
   -- position + credit is taken + 65,536, or the position where that is beyond it already
   pub ack-says : ackPosition v + ackCredit v ≡ max (v .taken + capacity) (ackPosition v)
-  unfolding ackCredit
-  ack-says = omega arith
+  ack-says = limit-is v
 
   -- as it can be by one
   pub ack-limit : length (v .cells) ≡ capacity → ackPosition v ≤ v .taken + capacity + 1
@@ -209,3 +213,16 @@ module _ (v : Receiving) where
   pub position-take : (n : ℕ) → ackPosition (takeOf v n) ≡ ackPosition v
   unfolding ackPosition
   position-take n = rw (low-take v n, end-take v n)
+
+  -- so the limit never moves back
+  pub limit-hear : (p : ℕ) (bs : List ℕ) (e : ℕ) → refusalOf v p (length bs) e ≡ 0 → ackPosition v + ackCredit v ≤ ackPosition (hearOf v p bs e) + ackCredit (hearOf v p bs e)
+  limit-hear p bs e z =
+      let w : Receiving = hearOf v p bs e in
+      let t : w .taken ≡ v .taken = taken-hear v p bs e in
+      omega (arith, position-hear p bs e z, ack-says, limit-is w)
+
+  pub limit-take : (n : ℕ) → ackPosition v + ackCredit v ≤ ackPosition (takeOf v n) + ackCredit (takeOf v n)
+  limit-take n =
+      let w : Receiving = takeOf v n in
+      let t : w .taken ≡ v .taken + length (gotOf v n) = taken-take v n in
+      omega (arith, position-take n, ack-says, limit-is w)

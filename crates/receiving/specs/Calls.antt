@@ -1,12 +1,12 @@
 -- What the calls of the receiving side ensure: for any contents of the buffers their lengths and the ranges of the scalars, and of buffers that may be read, what is read out of them after.
-use Prim.Native.Nat.{ℕ, _+_, _-_, _≤_, _<_}
+use Prim.Native.Nat.{ℕ, _+_, _-_, _≤_}
 use mathlib.Core.Path.{_≡_}
 use mathlib.Core.List.{List}
 use lib.ListN.{length}
 use Rattle.laws.specs.Over.{Over}
 use Rattle.wire.specs.Datagram.{ceiling}
 use Rattle.ring.specs.Ring.{capacity}
-use Rattle.receiving.specs.Receiving.{End, endOf, endAt, fresh, fillOf, hearOf, takeOf, gotOf, refusalBy, Ranged, Sound, receivingOf}
+use Rattle.receiving.specs.Receiving.{endOf, endAt, fresh, fillOf, hearOf, takeOf, gotOf, refusalBy, Ranged, Sound, receivingOf}
 use Rattle.receiving.specs.declared.Scalars.{Scalars}
 
 -- what is asked of buffers and scalars

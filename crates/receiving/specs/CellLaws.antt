@@ -1,19 +1,12 @@
 -- Laws of lists of cells, by index: what lay and fillCells write, what lead, reach and heads find. Assumes nothing.
-use mathlib.Core.Path.{_≡_, refl, sym, _∙_, ap}
+use mathlib.Core.Path.{_≡_, refl, _∙_, ap}
 use mathlib.Core.List.{List, [], _∷_, _++_}
-use mathlib.Core.Logic.{_⊎_, inl, inr, ⊎-elim}
-use Prim.Native.Nat.{ℕ, zero, suc, _+_, _-_, _≤_, _<_, min, zero-le}
+use Prim.Native.Nat.{ℕ, zero, suc, _+_, _-_, _≤_, _<_}
 use native.Mathlib.Omega.{arith}
 use native.Mathlib.Nat.{le-of-suc-le-suc, not-suc-le-zero}
-use lib.ListN.{length, getD, take, drop, replicate, length-append, length-take, length-drop, List·getD-append, length-replicate, getD-replicate, List·getD-eq-default}
-use lib.Seq.{getD-take, getD-drop, getD-append-add, length-take-le, take-all, drop-nil}
+use lib.ListN.{length, getD, take, drop, length-append, length-take, length-drop, List·getD-append}
+use lib.Seq.{getD-take, getD-drop, getD-append-add, length-take-le}
 use Rattle.receiving.specs.Receiving.{Cell, missing, byte, first, lay, fillCells, lead, heads, up, reach}
-
--- below or not
-pub split : (a b : ℕ) → (a < b) ⊎ (b ≤ a)
-split a zero = inr zero-le
-split zero (suc b) = inl (omega arith)
-split (suc a) (suc b) = ⊎-elim (λ h. inl (omega arith)) (λ h. inr (omega arith)) (split a b)
 
 pub length-lay : (cs : List Cell) (bs : List ℕ) → length (lay cs bs) ≡ length cs
 unfolding lay

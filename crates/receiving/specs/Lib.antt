@@ -8,3 +8,4 @@ pub mod AckLaws
 pub mod Truth
 pub mod TruthLaws
 pub mod ReceivingLaws
+pub mod Samples

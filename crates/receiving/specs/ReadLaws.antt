@@ -1,21 +1,22 @@
 -- Laws of what is read out of the lent buffers. Assumes nothing.
 use mathlib.Core.Path.{_≡_, refl, sym, _∙_, ap}
 use mathlib.Core.Logic.{⊎-elim}
-use mathlib.Core.Bool.{Bool, true, false}
-use mathlib.Core.List.{List, [], _∷_, _++_}
-use Prim.Native.Nat.{ℕ, zero, suc, _+_, _-_, _≤_, _<_, _%_}
+use mathlib.Core.Bool.{Bool, true, false, not}
+use mathlib.Core.List.{List}
+use Prim.Native.Nat.{ℕ, zero, suc, _+_, _-_, _≤_, _<_}
 use native.Mathlib.Omega.{arith}
 use native.Mathlib.Nat.{le-of-suc-le-suc, not-suc-le-zero}
 use lib.ListN.{length, getD}
-use lib.Dec.{eqb, leb, ltb}
-use borrow.Author.Tests.{lt-ltb, le-ltb, le-leb, leb-true, eq-eqb, ne-eqb}
+use lib.Dec.{eqb, leb}
+use borrow.Author.Tests.{lt-ltb, le-ltb, le-leb, leb-true, not-false}
 use Rattle.laws.specs.Choice.{if-case}
 use Rattle.wire.specs.Datagram.{ceiling}
 use Rattle.ring.specs.Ring.{capacity}
 use Rattle.receiving.specs.Receiving.{Cell, missing, byte, End, none, at, lead, lowOf, reach, highOf, of, mark, marked, cellAt, cellsFrom, cellsOf, endOf, endAt, receivingOf, Ranged, Sound, plausibleOf}
 use Rattle.receiving.specs.Receiving.{endedOf, ackPosition, ackCredit, refusalOf}
 use Rattle.receiving.specs.Calls.{refusal, endedBy, positionBy, creditBy}
-use Rattle.receiving.specs.CellLaws.{split, lead-is, reach-is}
+use Rattle.laws.specs.Split.{split}
+use Rattle.receiving.specs.CellLaws.{lead-is, reach-is}
 use Rattle.receiving.specs.declared.Scalars.{Scalars}
 
 marked-none : (k b : ℕ) → k ≡ 0 → marked k b ≡ missing
@@ -137,6 +138,10 @@ module _ (s : Scalars) where
       (split (s .high) (s .low)))
       (split (s .low) (s .taken))
 
+  -- where the code tests that they are not
+  pub plausible-not : (r : Bool) → r ≡ plausibleOf s → not r ≡ false → Ranged s
+  plausible-not r e t = plausible-ranged r e (not-false r t)
+
   pub sound-plausible : {ring marks : List ℕ} → Sound s ring marks → plausibleOf s ≡ true
   sound-plausible x = ranged-plausible (x .ranged)
 
@@ -149,19 +154,6 @@ end-some (suc k) e h = refl
 pub end-none : (known e : ℕ) → known ≡ 0 → endOf known e ≡ none
 unfolding endOf
 end-none known e h = rw h
-
-module _ (known e q : ℕ) where
-  pub end-at-none : known ≡ 0 → 0 ≡ endAt (endOf known e) q
-  unfolding endAt
-  end-at-none h = rw (end-none known e h)
-
-  pub end-at-here : (known ≡ 0 → ⊥) → e ≡ q → 1 ≡ endAt (endOf known e) q
-  unfolding endAt
-  end-at-here h k = rw (end-some known e h, eq-eqb e q k)
-
-  pub end-at-other : (known ≡ 0 → ⊥) → (e ≡ q → ⊥) → 0 ≡ endAt (endOf known e) q
-  unfolding endAt
-  end-at-other h k = rw (end-some known e h, ne-eqb e q k)
 
 pub end-at-small : (e : End) (q : ℕ) → endAt e q ≤ 1
 unfolding endAt

@@ -1,7 +1,7 @@
 -- 01 §5, and rows 8 and 9 of §3: the receiving side as a list of cells, and how it is read out of the lent buffers.
 use Prim.Native.Nat.{ℕ, zero, suc, _+_, _-_, _≤_, _<_, _%_}
 use mathlib.Core.Path.{_≡_}
-use mathlib.Core.Bool.{Bool, true, false, not}
+use mathlib.Core.Bool.{Bool, false, not}
 use mathlib.Core.List.{List, [], _∷_, _++_}
 use lib.ListN.{length, take, drop, getD, replicate}
 use lib.Dec.{eqb, leb, ltb}

@@ -1,25 +1,25 @@
 -- Statement B's steps for the receiving side, call by call, and why an honest peer's DATA is never refused. Assumes nothing.
-use Prim.Native.Nat.{ℕ, zero, suc, _+_, _-_, _≤_, _<_}
+use Prim.Native.Nat.{ℕ, _+_, _≤_, _<_}
 use mathlib.Core.Path.{_≡_, refl, ap, sym, _∙_}
 use mathlib.Core.Logic.{⊎-elim}
-use mathlib.Core.List.{List, [], _∷_, _++_}
+use mathlib.Core.List.{List, [], _++_}
 use native.Mathlib.Omega.{arith}
-use lib.ListN.{length, take, drop, replicate, length-append, length-replicate}
+use lib.ListN.{length, length-append, length-replicate}
 use lib.Dec.{eqb}
-use borrow.Author.Tests.{eqb-true, eq-eqb}
-use Rattle.laws.specs.Choice.{if, if-case}
-use Rattle.laws.specs.Rows.{_orElse_}
+use borrow.Author.Tests.{eqb-true}
+use Rattle.laws.specs.Choice.{if-case}
 use Rattle.laws.specs.RowsLaws.{miss-row}
 use Rattle.laws.specs.History.{Says}
 use Rattle.laws.specs.HistoryLaws.{says-grow, says-at, says-append}
 use Rattle.wire.specs.Datagram.{ceiling}
 use Rattle.ring.specs.Ring.{capacity}
-use Rattle.receiving.specs.Receiving.{Cell, missing, End, none, at, Receiving, fresh, fillOf, hearOf, lead, lowOf, reach, highOf, heads, gotOf, takeOf}
+use Rattle.receiving.specs.Receiving.{missing, End, none, at, Receiving, fresh, fillOf, hearOf, lowOf, reach, highOf, heads, gotOf, takeOf}
 use Rattle.receiving.specs.Receiving.{endAt, endedOf, ackPosition, ackCredit, beyondOf, misplacedOf, refusalBy, refusalOf}
-use Rattle.receiving.specs.CellLaws.{split, length-fill}
+use Rattle.laws.specs.Split.{split}
+use Rattle.receiving.specs.CellLaws.{length-fill}
 use Rattle.receiving.specs.ReadLaws.{end-at-small}
 use Rattle.receiving.specs.RefusalLaws.{beyond-none, beyond-within, unknown-after, unknown-none, known-there, known-none}
-use Rattle.receiving.specs.AckLaws.{taken-low, size-take, low-take, low-room, got-length, taken-take, end-take, position-take, ack-says, ack-limit}
+use Rattle.receiving.specs.AckLaws.{taken-low, size-take, low-room, got-length, taken-take, end-take, ack-says}
 use Rattle.receiving.specs.Truth.{Fits, Ends, unknown, known, ReceivingOK}
 use Rattle.receiving.specs.TruthLaws.{says-below, says-length, says-whole, fits-start, fits-grow, fits-fill, fits-taken, says-heads, fits-lead, fits-reach}
 

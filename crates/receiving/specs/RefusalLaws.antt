@@ -1,21 +1,17 @@
 -- Laws of refusals 8 and 9: each answer of the rows, and what an answer of 0 says. Assumes nothing.
-use mathlib.Core.Path.{_≡_, refl, sym, ap, _∙_}
-use mathlib.Core.Bool.{true, false, not}
-use mathlib.Core.List.{List}
-use Prim.Native.Nat.{ℕ, zero, suc, _+_, _-_, _≤_, _<_, _%_}
+use mathlib.Core.Path.{_≡_, refl, sym, _∙_}
+use mathlib.Core.Bool.{not}
+use Prim.Native.Nat.{ℕ, _+_, _-_, _≤_, _<_}
 use native.Mathlib.Omega.{arith}
 use mathlib.Core.Logic.{⊎-elim}
-use lib.ListN.{length}
 use lib.Dec.{eqb, ltb}
-use borrow.Author.Tests.{eq-eqb, ne-eqb, lt-ltb, le-ltb}
 use Rattle.laws.specs.Rows.{when, _orElse_, branch}
-use Rattle.laws.specs.RowsLaws.{row-left, row-right, hit-lt, miss-lt, hit-ne, miss-ne, then-eq, else-eq, hit-row, miss-row}
+use Rattle.laws.specs.RowsLaws.{row-left, hit-lt, miss-lt, hit-ne, miss-ne, then-eq, else-eq, hit-row, miss-row}
 use Rattle.wire.specs.Datagram.{ceiling, payloadMost}
 use Rattle.ring.specs.Ring.{capacity}
-use Rattle.receiving.specs.Receiving.{Receiving, End, none, at, endOf, beyondOf, misplacedOf, refusalBy, refusalOf, highOf, receivingOf, Sound}
+use Rattle.receiving.specs.Receiving.{none, at, beyondOf, misplacedOf, refusalBy}
 use Rattle.receiving.specs.Calls.{Room, refusal}
-use Rattle.receiving.specs.CellLaws.{split}
-use Rattle.receiving.specs.ReadLaws.{high-is, end-none, end-some}
+use Rattle.laws.specs.Split.{split}
 use Rattle.receiving.specs.declared.Scalars.{Scalars}
 
 -- 8
@@ -40,16 +36,6 @@ module _ (taken p n : ℕ) where
   beyond-within c h = ⊎-elim (λ z. beyond-none (omega arith))
       (λ z. else-eq 0 0 _ n 0 (λ e. omega arith) (miss-lt 0 8 _ ceiling (p + n) c (miss-lt 0 8 _ (taken + capacity) (p + n) h refl)))
       (split n 1)
-
--- in the code's words, which adds only where nothing overflows
-pub beyond-far : (taken p n : ℕ) → (n ≡ 0 → ⊥) → ceiling < p → 8 ≡ beyondOf taken p n
-beyond-far taken p n some h = beyond-ceiling taken p n some (omega arith)
-
-pub beyond-long : (taken p n : ℕ) → (n ≡ 0 → ⊥) → ceiling - p < n → 8 ≡ beyondOf taken p n
-beyond-long taken p n some h = beyond-ceiling taken p n some (omega arith)
-
-pub beyond-fine : (taken p n : ℕ) → p ≤ ceiling → n ≤ ceiling - p → p + n ≤ taken + capacity → 0 ≡ beyondOf taken p n
-beyond-fine taken p n c d h = beyond-within taken p n (omega arith) h
 
 -- bytes that are not refused with 8 fit
 pub record Within (taken p n : ℕ) : Type 0 where
@@ -113,50 +99,9 @@ module _ (k high q n e : ℕ) where
   pub known-none : (e ≡ 1 → ⊥) → (0 < n → q ≤ k) → 0 ≡ misplacedOf (at k) high q n e
   known-none x h = known-rest h 0 (else-eq 0 _ 0 e 1 x refl)
 
--- the same of the END as it is kept
-module _ (known k high q n e : ℕ) where
-  module _ (z : known ≡ 0) where
-    pub misplaced-quiet : (e ≡ 1 → ⊥) → 0 ≡ misplacedOf (endOf known k) high q n e
-    misplaced-quiet x = rw (end-none known k z) (unknown-none high q n e x)
-
-    pub misplaced-early : e ≡ 1 → q < high → 9 ≡ misplacedOf (endOf known k) high q n e
-    misplaced-early x h = rw (end-none known k z) (unknown-before high q n e x h)
-
-    pub misplaced-new : e ≡ 1 → high ≤ q → 0 ≡ misplacedOf (endOf known k) high q n e
-    misplaced-new x h = rw (end-none known k z) (unknown-after high q n e x h)
-
-  module _ (z : known ≡ 0 → ⊥) where
-    pub misplaced-elsewhere : e ≡ 1 → (q ≡ k → ⊥) → 9 ≡ misplacedOf (endOf known k) high q n e
-    misplaced-elsewhere x h = rw (end-some known k z) (known-elsewhere k high q n e x h)
-
-    pub misplaced-there : e ≡ 1 → q ≡ k → 0 ≡ misplacedOf (endOf known k) high q n e
-    misplaced-there x h = rw (end-some known k z) (known-there k high q n e x h)
-
-    pub misplaced-empty : (e ≡ 1 → ⊥) → n ≡ 0 → 0 ≡ misplacedOf (endOf known k) high q n e
-    misplaced-empty x h = rw (end-some known k z) (known-none k high q n e x (λ y. absurd (omega arith)))
-
-    pub misplaced-after : (n ≡ 0 → ⊥) → k < q → 9 ≡ misplacedOf (endOf known k) high q n e
-    misplaced-after x h = rw (end-some known k z) (known-after k high q n e x h)
-
-    pub misplaced-before : (e ≡ 1 → ⊥) → q ≤ k → 0 ≡ misplacedOf (endOf known k) high q n e
-    misplaced-before x h = rw (end-some known k z) (known-none k high q n e x (λ y. h))
-
--- what is not refused with 8 has an end that fits 64 bits
-pub beyond-sum : (b taken p n : ℕ) → b ≡ beyondOf taken p n → b ≡ 0 → p < 18446744073709551616 → p + n < 18446744073709551616
-beyond-sum b taken p n x y h = let w = beyond-zero taken p n (sym x ∙ y) in let v = w .small in omega arith
-
--- what judge answers, and what 0 says of it
-module _ (s : Scalars) (p n e r : ℕ) where
-  pub judge-beyond : (b : ℕ) → b ≡ beyondOf (s .taken) p n → (b ≡ 0 → ⊥) → b ≡ refusal s p n e
-  unfolding refusal refusalBy
-  judge-beyond b x y = hit-row b _ _ x y
-
-  pub judge-misplaced : (b : ℕ) → b ≡ beyondOf (s .taken) p n → b ≡ 0 → r ≡ misplacedOf (endOf (s .known) (s .end)) (s .high) (p + n) n e → r ≡ refusal s p n e
-  unfolding refusal refusalBy
-  judge-misplaced b x y z = miss-row r _ _ b x y z
-
-  pub judge-room : r ≡ refusal s p n e → r ≡ 0 → n ≤ payloadMost → Room s p n
-  unfolding refusal refusalBy
-  judge-room x y h =
-      let w = beyond-zero (s .taken) p n (row-left (beyondOf (s .taken) p n) _ (sym x ∙ y)) in
-      record { limit = w .limit; small = w .small; few = omega arith }
+-- what is not refused may be heard
+pub judge-room : (s : Scalars) (p n e r : ℕ) → r ≡ refusal s p n e → r ≡ 0 → n ≤ payloadMost → Room s p n
+unfolding refusal refusalBy
+judge-room s p n e r x y h =
+    let w = beyond-zero (s .taken) p n (row-left (beyondOf (s .taken) p n) _ (sym x ∙ y)) in
+    record { limit = w .limit; small = w .small; few = omega arith }

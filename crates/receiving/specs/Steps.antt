@@ -67,3 +67,7 @@ pub record Runs (m : List ℕ) (low top l : ℕ) : Type 0 where
 pub record Advanced (m : List ℕ) (low top : ℕ) (m′ : List ℕ) (l : ℕ) : Type 0 where
   pub marks-same : length m′ ≡ length m
   pub moves : Moves (mark m) low top (mark m′) l
+
+-- r is 0 only where no position of a .. b - 1 has a mark
+pub record Unmarked (m : List ℕ) (a b r : ℕ) : Type 0 where
+  pub none : r ≡ 0 → (q : ℕ) → a ≤ q → q < b → mark m q ≡ 0

@@ -5,21 +5,14 @@ use mathlib.Core.Logic.{⊎-elim}
 use mathlib.Core.List.{List, [], _∷_, _++_, append-nil}
 use native.Mathlib.Omega.{arith}
 use native.Mathlib.Nat.{add-zero}
-use lib.ListN.{length, take, drop, replicate, length-append, length-replicate}
-use lib.Dec.{eqb}
-use borrow.Author.Tests.{eqb-true, eq-eqb}
-use Rattle.laws.specs.Choice.{if, if-case}
-use Rattle.laws.specs.Rows.{_orElse_}
-use Rattle.laws.specs.RowsLaws.{miss-row}
+use lib.ListN.{length, take, drop, replicate, length-append}
 use Rattle.laws.specs.History.{At, Says, Prefix}
 use Rattle.laws.specs.History.At.{here, there}
 use Rattle.laws.specs.History.Says.{none, more}
-use Rattle.laws.specs.HistoryLaws.{at-grow, says-grow, says-at, says-drop, says-append, says-prefix}
-use Rattle.wire.specs.Datagram.{ceiling}
-use Rattle.ring.specs.Ring.{capacity}
+use Rattle.laws.specs.HistoryLaws.{at-grow, says-at, says-drop, says-prefix}
 use Rattle.receiving.specs.Receiving.{Cell, missing, byte, first, lay, fillCells, lead, up, reach, heads}
-use Rattle.receiving.specs.CellLaws.{split, length-fill}
-use Rattle.receiving.specs.Truth.{Fits, Ends, ReceivingOK}
+use Rattle.laws.specs.Split.{split}
+use Rattle.receiving.specs.Truth.{Fits}
 use Rattle.receiving.specs.Truth.Fits.{end, skip, fill}
 
 -- what a history has stands below its length

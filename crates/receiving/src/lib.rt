@@ -1,11 +1,11 @@
 // 01 section 5: what has arrived, in a ring of bytes, with marks for what lies beyond the lowest missing position.
 ghost use mathlib.Core.Path.{_≡_};
-ghost use Prim.Native.Nat.{ℕ, _+_, _-_, _≤_, _<_, min, max};
+ghost use Prim.Native.Nat.{_+_, _-_, _≤_, _<_, min, max};
 ghost use lib.ListN.{length};
 ghost use Rattle.wire.specs.Datagram.{ceiling};
 ghost use Rattle.ring.specs.Ring.{capacity};
 ghost use Rattle.receiving.specs.Receiving.{endOf, endAt, beyondOf, misplacedOf, Ranged, plausibleOf};
-ghost use Rattle.receiving.specs.Steps.{Written, Stored, Laid, Placed, Runs, Advanced};
+ghost use Rattle.receiving.specs.Steps.{Written, Stored, Laid, Placed, Runs, Advanced, Unmarked};
 ghost use Rattle.receiving.specs.Calls.{Lent, Room, Starts, Fills, Hears, Takes, refusal, endedBy, positionBy, creditBy};
 use ring::CAPACITY;
 
@@ -149,7 +149,7 @@ fn place(ring: &mut [u8], marks: &mut [u8], p: u64, src: &[u8], low: u64, high: 
     lay(ring, marks, p, src, a, edge);
 }
 
-// Out of order, or with a gap to close.
+// Out of order, or over positions of which some have arrived.
 fn slow(ring: &mut [u8], marks: &mut [u8], s: Scalars, p: u64, src: &[u8]) -> Scalars
     requires { ⌜ Lent s (now ring) (now marks) ⌝ }
     requires { ⌜ ((s .low < p + length (now src)) × (p + length (now src) ≤ s .taken + capacity)) × ((0 < length (now src)) × (length (now src) ≤ capacity)) ⌝ }
@@ -168,7 +168,70 @@ fn slow(ring: &mut [u8], marks: &mut [u8], s: Scalars, p: u64, src: &[u8]) -> Sc
     }
 }
 
-// A DATA's bytes. In order, with nothing beyond the lowest missing position, they are one copy, and no mark is touched.
+// 0 where no position from a to b - 1 has a mark.
+fn marked(marks: &[u8], a: u64, b: u64) -> u8
+    requires { ⌜ length (now marks) ≡ capacity ⌝ }
+    requires { ⌜ (a ≤ b) × (b ≤ a + capacity) ⌝ }
+    ensures { λ r. ⌜ Unmarked (now (marks .entry)) a b r ⌝ }
+{
+    let at = (a % CAPACITY as u64) as usize;
+    let n = (b - a) as usize;
+    let room = CAPACITY - at;
+    if n <= room {
+        return ring::nonzero(&marks[at..at + n]);
+    }
+    if ring::nonzero(&marks[at..CAPACITY]) != 0 {
+        return 1;
+    }
+    ring::nonzero(&marks[0..n - room])
+}
+
+// In order, and no position has a mark: one copy, and then low passes what has arrived beyond.
+fn follow(ring: &mut [u8], marks: &mut [u8], s: Scalars, p: u64, src: &[u8]) -> Scalars
+    requires { ⌜ Lent s (now ring) (now marks) ⌝ }
+    requires { ⌜ ((p ≤ s .low) × (s .low < p + length (now src))) × ((p + length (now src) ≤ s .taken + capacity) × (length (now src) ≤ capacity)) ⌝ }
+    requires { ⌜ p + length (now src) ≤ ceiling ⌝ }
+    requires { ⌜ Unmarked (now marks) (s .low) (p + length (now src)) 0 ⌝ }
+    ensures { λ r. ⌜ Fills (now (ring .entry)) (now (marks .entry)) s p (now (src .entry)) (now (ring .exit)) (now (marks .exit)) r ⌝ }
+{
+    let e = p + src.len() as u64;
+    let top = most(s.high, e);
+    write(ring, p, src, s.low);
+    let l = advance(marks, e, top);
+    Scalars {
+        taken: s.taken,
+        low: l,
+        high: top,
+        known: s.known,
+        end: s.end,
+    }
+}
+
+// In order. Where nothing lies beyond the lowest missing position it is one copy, and no mark is touched.
+fn in_order(ring: &mut [u8], marks: &mut [u8], s: Scalars, p: u64, src: &[u8]) -> Scalars
+    requires { ⌜ Lent s (now ring) (now marks) ⌝ }
+    requires { ⌜ ((p ≤ s .low) × (s .low < p + length (now src))) × ((p + length (now src) ≤ s .taken + capacity) × (length (now src) ≤ capacity)) ⌝ }
+    requires { ⌜ p + length (now src) ≤ ceiling ⌝ }
+    ensures { λ r. ⌜ Fills (now (ring .entry)) (now (marks .entry)) s p (now (src .entry)) (now (ring .exit)) (now (marks .exit)) r ⌝ }
+{
+    let e = p + src.len() as u64;
+    if s.high <= s.low {
+        write(ring, p, src, s.low);
+        return Scalars {
+            taken: s.taken,
+            low: e,
+            high: e,
+            known: s.known,
+            end: s.end,
+        };
+    }
+    if marked(marks, s.low, e) != 0 {
+        return slow(ring, marks, s, p, src);
+    }
+    follow(ring, marks, s, p, src)
+}
+
+// A DATA's bytes.
 fn fill(ring: &mut [u8], marks: &mut [u8], s: Scalars, p: u64, src: &[u8]) -> Scalars
     requires { ⌜ Lent s (now ring) (now marks) ⌝ }
     requires { ⌜ Room s p (length (now src)) ⌝ }
@@ -177,21 +240,11 @@ fn fill(ring: &mut [u8], marks: &mut [u8], s: Scalars, p: u64, src: &[u8]) -> Sc
     if src.len() == 0 {
         return s;
     }
-    let e = p + src.len() as u64;
-    if e <= s.low {
+    if p + src.len() as u64 <= s.low {
         return s;
     }
-    if s.high <= s.low {
-        if p <= s.low {
-            write(ring, p, src, s.low);
-            return Scalars {
-                taken: s.taken,
-                low: e,
-                high: e,
-                known: s.known,
-                end: s.end,
-            };
-        }
+    if p <= s.low {
+        return in_order(ring, marks, s, p, src);
     }
     slow(ring, marks, s, p, src)
 }

@@ -1,18 +1,14 @@
 -- What stands where in a list in which a part was replaced, and that one or two replaced parts are a write into a ring. Assumes nothing.
 use mathlib.Core.Path.{_≡_, refl, sym, ap, _∙_}
-use mathlib.Core.Logic.{_⊎_, inl, inr, ⊎-elim}
+use mathlib.Core.Logic.{⊎-elim}
 use mathlib.Core.List.{List, _∷_, _++_}
 use Prim.Native.Nat.{ℕ, zero, suc, _+_, _-_, _%_, _≤_, _<_, zero-le}
 use native.Mathlib.Omega.{arith}
 use lib.ListN.{length, take, drop, getD, replicate, length-replicate, List·getD-append}
 use lib.Seq.{getD-append-add, getD-take, getD-drop, length-take-le}
-use borrow.Rule.Slice.PartMut.{putMid, postOf, same-len-mid, mid-len}
+use borrow.Rule.Slice.PartMut.{putMid, postOf, same-len-mid}
+use Rattle.laws.specs.Split.{split}
 use Rattle.ring.specs.Ring.{capacity, Put, Got, Zero}
-
-split : (a b : ℕ) → (a < b) ⊎ (b ≤ a)
-split a zero = inr zero-le
-split zero (suc b) = inl (omega arith)
-split (suc a) (suc b) = ⊎-elim (λ h. inl (omega arith)) (λ h. inr (omega arith)) (split a b)
 
 past : (x y : List ℕ) (n j : ℕ) → length x ≡ n → getD (x ++ y) (n + j) 0 ≡ getD y j 0
 past x y n j e = rw (← e) (getD-append-add x y j 0)

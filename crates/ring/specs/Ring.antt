@@ -29,3 +29,7 @@ pub record Zero (m : List ℕ) (a r : ℕ) : Type 0 where
   pub high : r ≤ length m
   pub before : (k : ℕ) → k < r → a ≤ k → getD m k 0 ≡ 0 → ⊥
   pub found : r < length m → getD m r 0 ≡ 0
+
+-- r is 0 only where every byte of m is
+pub record Blank (m : List ℕ) (r : ℕ) : Type 0 where
+  pub zero : r ≡ 0 → (k : ℕ) → k < length m → getD m k 0 ≡ 0

@@ -3,7 +3,7 @@ ghost use mathlib.Core.Path.{_≡_};
 ghost use Prim.Native.Nat.{ℕ, _+_, _≤_, _<_};
 ghost use lib.ListN.{length, drop, getD, replicate};
 ghost use lib.Seq.{paste};
-ghost use Rattle.ring.specs.Ring.{capacity, Put, Got, Zero};
+ghost use Rattle.ring.specs.Ring.{capacity, Put, Got, Zero, Blank};
 
 // The bytes of a ring: the byte of position p stands at p % CAPACITY.
 pub const CAPACITY: usize = 65536;
@@ -154,4 +154,19 @@ pub fn first_zero(m: &[u8], from: usize) -> usize
         i += 16;
     }
     first_zero_slow(m, i)
+}
+
+// 0 where every byte of m is 0. The loop has no early exit, so that it compares sixteen bytes at a time.
+pub fn nonzero(m: &[u8]) -> u8
+    ensures { λ r. ⌜ Blank (now (m .entry)) r ⌝ }
+{
+    let mut z = 0;
+    let mut i = 0;
+    while i < m.len() {
+        if m[i] != 0 {
+            z = 1;
+        }
+        i += 1;
+    }
+    z
 }

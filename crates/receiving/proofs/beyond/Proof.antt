@@ -1,6 +1,7 @@
 -- `receiving::beyond` meets its contract. Assumes nothing.
 use borrow.Author.Needs.{needs}
-use Rattle.receiving.specs.RefusalLaws.{beyond-none, beyond-far, beyond-long, beyond-limit, beyond-fine}
+use Rattle.receiving.proofs.JudgeLaws.{beyond-far, beyond-long, beyond-fine}
+use Rattle.receiving.specs.RefusalLaws.{beyond-none, beyond-limit}
 use Rattle.receiving.proofs.beyond.Statement.{statement}
 use Rattle.receiving.proofs.beyond.Tie as tie
 

@@ -1,6 +1,6 @@
 -- `receiving::end_at` meets its contract. Assumes nothing.
 use borrow.Author.Needs.{needs}
-use Rattle.receiving.specs.ReadLaws.{end-at-none, end-at-here, end-at-other}
+use Rattle.receiving.proofs.JudgeLaws.{end-at-none, end-at-here, end-at-other}
 use Rattle.receiving.proofs.end_at.Statement.{statement}
 use Rattle.receiving.proofs.end_at.Tie as tie
 

@@ -1,35 +1,38 @@
 -- `receiving::fill` meets its contract. Assumes nothing.
 use borrow.Author.Needs.{needs}
-use Rattle.receiving.proofs.FillLaws.{none-fills, old-fills, fast-fills}
+use Rattle.receiving.proofs.FillLaws.{none-fills, old-fills}
 use Rattle.receiving.proofs.fill.Statement.{statement}
 use Rattle.receiving.proofs.fill.Tie as tie
 
 returns : tie.Need-returns
 returns c = search (needs, none-fills)
 
-add-e : tie.Need-add-e
-add-e c = search needs
+add-if2 : tie.Need-add-if2
+add-if2 c = search needs
 
 returns-2 : tie.Need-returns-2
 returns-2 c = search (needs, old-fills)
 
-write-requires : tie.Need-write-requires
-write-requires c κs = search needs
+in-order-requires : tie.Need-in-order-requires
+in-order-requires c κs = search needs
 
 same-length : tie.Need-same-length
 same-length c = search needs
 
+same-length-2 : tie.Need-same-length-2
+same-length-2 c = search needs
+
 returns-3 : tie.Need-returns-3
-returns-3 c = search (needs, fast-fills)
+returns-3 c = search needs
 
 slow-requires : tie.Need-slow-requires
 slow-requires c κs = search needs
 
-same-length-2 : tie.Need-same-length-2
-same-length-2 c = search needs
-
 same-length-3 : tie.Need-same-length-3
 same-length-3 c = search needs
+
+same-length-4 : tie.Need-same-length-4
+same-length-4 c = search needs
 
 returns-4 : tie.Need-returns-4
 returns-4 c = search needs
@@ -39,12 +42,13 @@ fill-spec =
     tie.close
     (tie.spec
     returns
-    add-e
+    add-if2
     returns-2
-    write-requires
+    in-order-requires
     same-length
+    same-length-2
     returns-3
     slow-requires
-    same-length-2
     same-length-3
+    same-length-4
     returns-4)

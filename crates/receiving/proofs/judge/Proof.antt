@@ -1,6 +1,6 @@
 -- `receiving::judge` meets its contract. Assumes nothing.
 use borrow.Author.Needs.{needs}
-use Rattle.receiving.specs.RefusalLaws.{beyond-sum, judge-beyond, judge-misplaced}
+use Rattle.receiving.proofs.JudgeLaws.{beyond-sum, judge-beyond, judge-misplaced}
 use Rattle.receiving.proofs.judge.Statement.{statement}
 use Rattle.receiving.proofs.judge.Tie as tie
 

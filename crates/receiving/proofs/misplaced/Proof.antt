@@ -1,6 +1,6 @@
 -- `receiving::misplaced` meets its contract. Assumes nothing.
 use borrow.Author.Needs.{needs}
-use Rattle.receiving.specs.RefusalLaws.{misplaced-quiet, misplaced-early, misplaced-new, misplaced-elsewhere, misplaced-there, misplaced-empty, misplaced-after, misplaced-before}
+use Rattle.receiving.proofs.JudgeLaws.{misplaced-quiet, misplaced-early, misplaced-new, misplaced-elsewhere, misplaced-there, misplaced-empty, misplaced-after, misplaced-before}
 use Rattle.receiving.proofs.misplaced.Statement.{statement}
 use Rattle.receiving.proofs.misplaced.Tie as tie
 

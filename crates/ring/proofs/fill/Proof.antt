@@ -1,13 +1,11 @@
 -- `ring::fill` meets its contract. Assumes nothing.
 use Rattle.ring.proofs.Laws.{fill-more, filled}
-use mathlib.Core.Path.{_≡_, refl, sym, ap, _∙_}
-use mathlib.Core.List.{List, _++_, append-nil}
-use mathlib.Core.Logic.{⊎-elim}
-use Prim.Native.Nat.{ℕ, _+_, _-_, _≤_, _<_}
+use mathlib.Core.Path.{_≡_, _∙_}
+use mathlib.Core.List.{_++_}
+use Prim.Native.Nat.{_-_, _≤_}
 use native.Mathlib.Omega.{arith}
-use lib.ListN.{length, take, drop, getD, replicate, length-set}
+use lib.ListN.{length, take, drop, replicate, length-set}
 use borrow.Author.Needs.{needs}
-use borrow.Author.Count.{below-more}
 use Rattle.ring.proofs.fill.Statement.{statement}
 use Rattle.ring.proofs.fill.Tie as tie
 

@@ -1,8 +1,7 @@
 -- `ring::ring_get` meets its contract. Assumes nothing.
-use mathlib.Core.Path.{_≡_, _∙_, ap}
-use Prim.Native.Nat.{ℕ, _+_, _-_, _%_}
+use Prim.Native.Nat.{_+_, _-_, _%_}
 use native.Mathlib.Omega.{arith}
-use lib.ListN.{length, take, drop}
+use lib.ListN.{length}
 use Rattle.ring.proofs.Ring.{got-one, got-two}
 use borrow.Author.Needs.{needs}
 use Rattle.ring.specs.Ring.{capacity}
