@@ -12,3 +12,5 @@ pub mod GiveLaws
 pub mod AckLaws
 pub mod OrderLaws
 pub mod BufferLaws
+pub mod True
+pub mod TrueLaws
