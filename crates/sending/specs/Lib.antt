@@ -14,3 +14,4 @@ pub mod OrderLaws
 pub mod BufferLaws
 pub mod True
 pub mod TrueLaws
+pub mod CallLaws
