@@ -15,3 +15,4 @@ pub mod BufferLaws
 pub mod True
 pub mod TrueLaws
 pub mod CallLaws
+pub mod TickLaws
