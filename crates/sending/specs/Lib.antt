@@ -16,3 +16,5 @@ pub mod True
 pub mod TrueLaws
 pub mod CallLaws
 pub mod TickLaws
+pub mod Past
+pub mod PastLaws

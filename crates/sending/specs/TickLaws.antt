@@ -16,12 +16,10 @@ use Rattle.sending.specs.Sending.{segmentsMost, Segment, Probed, never, 
 use Rattle.sending.specs.Steps.{Resent, dueOf, againOf, resendOf, Cut, bytesTo, cutTo, cutOne, cutOf, cutsOf, agoOf, probesOf, Work, probeOf, stepsOf, sendOf}
 use Rattle.sending.specs.Buffers.{Chain, Orderly}
 use Rattle.sending.specs.Buffers.Chain.{none, one}
-use Rattle.sending.specs.StepLaws.{and-left, and-right, due-allowed, cut-send, cut-nothing, cut-stays}
+use Rattle.sending.specs.Acking.{ackOf}
+use Rattle.sending.specs.AckLaws.{Beyond, beyond}
+use Rattle.sending.specs.StepLaws.{and-left, and-right, and-none, due-allowed, cut-send, cut-nothing, cut-stays}
 use Rattle.sending.specs.OrderLaws.{acked-next, resend-length, Ends, cut-ends, probe-next, probe-kept}
-
-and-no : (a b : Bool) → b ≡ false → (a && b) ≡ false
-and-no true b h = h
-and-no false b h = refl
 
 -- x stands last: the oldest
 pub record Last {A : Type 0} (x : A) (xs : List A) : Type 0 where
@@ -197,6 +195,9 @@ oldest-covers s g o k =
     let i = last-ends (o .chain) k in
     segment-covers s (s .acked) (g .to) o (omega arith) (i .some) (record { size = i .size; top = omega (arith, o .top, o .last, i .top); within = omega (arith, o .within, o .last, i .top) })
 
+beyond-last : {acked given p : ℕ} {gs : List Segment} {g : Segment} → Chain acked given gs → Last g gs → p < g .to → Beyond acked p gs
+beyond-last {acked} {given} {p} {g = g} c k h = rw (k .is) (beyond acked given p (k .newer) g h (rw (k .is) at c))
+
 -- it is due, and one datagram is allowed: its DATA leaves, and its time is now
 record Again (m : Message) (g : Segment) (r : Resent) : Type 0 where
   sent : Last m (r .sent)
@@ -265,6 +266,17 @@ oldest-waits w s g k h =
     let i = wait-last w l (partOf s) (s .acked) g k h in
     let n = grown w l (partOf s) (w .allowed - length (R .sent)) (record { next = s .next; sent = []; kept = R .kept }) in
     rw (probe-kept w l (s .probed) (cutsOf w l (partOf s) (s .acked) (s .next) (s .kept)), n .kept) (last-append (n .cuts) i)
+
+-- an ACK below its end leaves it the oldest, and acked where it was
+pub record OldestKept (s t : Sending) (g : Segment) : Type 0 where
+  pub kept : Last g (t .kept)
+  pub acked : t .acked ≡ s .acked
+
+pub oldest-ack : (s : Sending) (position credit : ℕ) (g : Segment) → Orderly s → Last g (s .kept) → position < g .to → OldestKept s (ackOf s position credit) g
+unfolding ackOf
+oldest-ack s position credit g o k h =
+    let b = beyond-last (o .chain) k h in
+    record { kept = rw (b .left) k; acked = b .acked-is }
 
 -- A NEW SEGMENT
 -- the first turn may as well go first
@@ -384,7 +396,7 @@ probes-none : (w : Tick) (l : Line) (t next kept sent : ℕ) → w .now - t < w 
 unfolding probesOf agoOf
 probes-none w l t next kept sent h =
     let q = lt-leb (w .every) (w .now - t) h in
-    and-no (ltb next (l .given)) _ (and-no (eqb kept 0) _ (and-no (leb (l .limit) next) _ (and-no (ltb sent (w .allowed)) _ q)))
+    and-none (ltb next (l .given)) _ (and-none (eqb kept 0) _ (and-none (leb (l .limit) next) _ (and-none (ltb sent (w .allowed)) _ q)))
 
 pub record ProbeSent (w : Tick) (s : Sending) : Type 0 where
   pub sent : sendOf w s .sent ≡ PROBE (s .next) ∷ []
