@@ -285,6 +285,9 @@ unfolding cutOf
 cut-first w l part zero c = refl
 cut-first w l part (suc n) c = ap (cutOne w l part) (cut-first w l part n c)
 
+cut-one-first : (w : Tick) (l : Line) (part : ℕ → ℕ → List ℕ) (n : ℕ) (c : Cut) → 0 < n → cutOf w l part n c ≡ cutOf w l part (n - 1) (cutOne w l part c)
+cut-one-first w l part n c h = let k : n ≡ suc (n - 1) = omega arith in ap (λ (i : ℕ). cutOf w l part i c) k ∙ cut-first w l part (n - 1) c
+
 cut-to-bytes : (l : Line) (a : ℕ) → a < l .given → a < l .limit → a < cutTo l a
 unfolding cutTo
 cut-to-bytes l a h k = if-case (λ (b : ℕ). a < b) (eqb (l .closed) 1 && eqb (bytesTo l a) (l .given)) (λ e. omega arith) (λ e. omega arith)
@@ -326,8 +329,7 @@ cut-segment w s o few room lt =
     let m = dataOf (s .given) (partOf s) (s .next) b in
     let u : length (R .kept) < segmentsMost = omega (arith, resend-length w l (partOf s) (s .acked) (s .kept)) in
     let one : d ≡ record { next = b; sent = m ∷ []; kept = record { to = b; at = w .now } ∷ R .kept } = cut-send w l (partOf s) c u lt in
-    let k : n ≡ suc (n - 1) = omega arith in
-    let e : cutOf w l (partOf s) n c ≡ cutOf w l (partOf s) (n - 1) d = ap (λ (i : ℕ). cutOf w l (partOf s) i c) k ∙ cut-first w l (partOf s) (n - 1) c in
+    let e = cut-one-first w l (partOf s) n c (omega arith) in
     let g : Grown (n - 1) d (cutOf w l (partOf s) n c) = rw e (grown w l (partOf s) (n - 1) d) in
     let C = cutOf w l (partOf s) n c in
     let hm : Has m (C .sent) = record { newer = g .news; older = []; is = g .sent ∙ rw one } in
