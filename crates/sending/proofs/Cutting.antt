@@ -63,11 +63,11 @@ cutting-none w e l p ring ends times out ok = record {
   kept = ok .kept;
 }
 
-pub cutting-more : {w : Tick} {e : Stamp} {l : Line} {p : Row} {ring ends times out : List ℕ} {a k o n : ℕ} {b t x : List ℕ} {m to : ℕ} {x′ : List ℕ}
+more : {w : Tick} {e : Stamp} {l : Line} {p : Row} {ring ends times out : List ℕ} {a k o n : ℕ} {b t x : List ℕ} {m to : ℕ} {x′ : List ℕ}
     → Cutting w e l p ring ends times out a k o n b t x → Room w e l p out ring ends times → n < w .allowed → k < segmentsMost → to ≡ cutTo l a → a < to
     → SentOne x o (encode (e .epoch) (e .number + n + 1) (dataOf (l .given) (span ring) a to)) m x′
     → Cutting w e l p ring ends times out to (k + 1) (o + m) (n + 1) (set b ((p .oldest + k) % segmentsMost) to) (set t ((p .oldest + k) % segmentsMost) (w .now)) x′
-cutting-more {w} {e} {l} {p} {ring} {ends} {times} {out} {a} {k} {o} {n} {b} {t} {x} {m} {to} {x′} r ok lt few is up d =
+more {w} {e} {l} {p} {ring} {ends} {times} {out} {a} {k} {o} {n} {b} {t} {x} {m} {to} {x′} r ok lt few is up d =
     let c = cutOf w l (span ring) n (begun p ends times) in
     let h = r .holds in
     let fits : datagramMost * w .allowed ≤ length out = ok .out-size in
@@ -98,6 +98,13 @@ cutting-more {w} {e} {l} {p} {ring} {ends} {times} {out} {a} {k} {o} {n} {b} {t}
       few = omega arith;
       kept = omega arith;
     }
+
+-- with the place of the new segment
+pub cutting-more : {w : Tick} {e : Stamp} {l : Line} {p : Row} {ring ends times out : List ℕ} {a k o n : ℕ} {b t x : List ℕ} {m to at : ℕ} {x′ : List ℕ}
+    → Cutting w e l p ring ends times out a k o n b t x → Room w e l p out ring ends times → n < w .allowed → k < segmentsMost → to ≡ cutTo l a → a < to
+    → SentOne x o (encode (e .epoch) (e .number + n + 1) (dataOf (l .given) (span ring) a to)) m x′ → at ≡ (p .oldest + k) % segmentsMost
+    → Cutting w e l p ring ends times out to (k + 1) (o + m) (n + 1) (set b at to) (set t at (w .now)) x′
+cutting-more r ok lt few is up d at-is = rw at-is (more r ok lt few is up d)
 
 -- what was promised, where no turn is left or none would do anything
 module _ {w : Tick} {e : Stamp} {l : Line} {p : Row} {ring ends times out : List ℕ} {a k o n : ℕ} {b t x : List ℕ} (r : Cutting w e l p ring ends times out a k o n b t x) where

@@ -53,11 +53,11 @@ resending-none w e l p ring ends times out h = record {
   few = omega arith;
 }
 
-pub resending-skip : {w : Tick} {e : Stamp} {l : Line} {p : Row} {ring ends times out : List ℕ} {i from o n : ℕ} {t x : List ℕ} → Resending w e l p ring ends times out i from o n t x
+skip : {w : Tick} {e : Stamp} {l : Line} {p : Row} {ring ends times out : List ℕ} {i from o n : ℕ} {t x : List ℕ} → Resending w e l p ring ends times out i from o n t x
     → Room w e l p out ring ends times → i < p .kept → {q : Bool} → q ≡ dueOf w (getD t ((p .oldest + i) % segmentsMost) 0) n → q ≡ false
     → Resending w e l p ring ends times out (i + 1) (getD ends ((p .oldest + i) % segmentsMost) 0) o n t x
 unfolding startOf
-resending-skip {w} {e} {l} {p} {ring} {ends} {times} {out} {i} {from} {o} {n} {t} {x} r ok lo {q} u v =
+skip {w} {e} {l} {p} {ring} {ends} {times} {out} {i} {from} {o} {n} {t} {x} r ok lo {q} u v =
     let b : i < segmentsMost = omega (arith, ok .kept) in
     let h : dueOf w (getD t ((p .oldest + i) % segmentsMost) 0) n ≡ false = sym u ∙ v in
     let gs = segs ends times (p .oldest) i in
@@ -78,13 +78,13 @@ resending-skip {w} {e} {l} {p} {ring} {ends} {times} {out} {i} {from} {o} {n} {t
       few = r .few;
     }
 
-pub resending-send : {w : Tick} {e : Stamp} {l : Line} {p : Row} {ring ends times out : List ℕ} {i from o n : ℕ} {t x : List ℕ} {m : ℕ} {x′ : List ℕ}
+send : {w : Tick} {e : Stamp} {l : Line} {p : Row} {ring ends times out : List ℕ} {i from o n : ℕ} {t x : List ℕ} {m : ℕ} {x′ : List ℕ}
     → Resending w e l p ring ends times out i from o n t x
     → Room w e l p out ring ends times → i < p .kept → {q : Bool} → q ≡ dueOf w (getD t ((p .oldest + i) % segmentsMost) 0) n → q ≡ true
     → SentOne x o (encode (e .epoch) (e .number + n + 1) (dataOf (l .given) (span ring) from (getD ends ((p .oldest + i) % segmentsMost) 0))) m x′
     → Resending w e l p ring ends times out (i + 1) (getD ends ((p .oldest + i) % segmentsMost) 0) (o + m) (n + 1) (set t ((p .oldest + i) % segmentsMost) (w .now)) x′
 unfolding startOf
-resending-send {w} {e} {l} {p} {ring} {ends} {times} {out} {i} {from} {o} {n} {t} {x} {m} {x′} r ok lo {q} u v d =
+send {w} {e} {l} {p} {ring} {ends} {times} {out} {i} {from} {o} {n} {t} {x} {m} {x′} r ok lo {q} u v d =
     let b : i < segmentsMost = omega (arith, ok .kept) in
     let fits : datagramMost * w .allowed ≤ length out = ok .out-size in
     let h : dueOf w (getD t ((p .oldest + i) % segmentsMost) 0) n ≡ true = sym u ∙ v in
@@ -116,6 +116,19 @@ resending-send {w} {e} {l} {p} {ring} {ends} {times} {out} {i} {from} {o} {n} {t
       few = omega arith;
     }
 
+-- with the place of segment i
+pub resending-skip : {w : Tick} {e : Stamp} {l : Line} {p : Row} {ring ends times out : List ℕ} {i from o n : ℕ} {t x : List ℕ} {at : ℕ} → Resending w e l p ring ends times out i from o n t x
+    → Room w e l p out ring ends times → i < p .kept → at ≡ (p .oldest + i) % segmentsMost → {q : Bool} → q ≡ dueOf w (getD t at 0) n → q ≡ false
+    → Resending w e l p ring ends times out (i + 1) (getD ends at 0) o n t x
+resending-skip r ok lo is u v = rw is (skip r ok lo (rw is at u) v)
+
+pub resending-send : {w : Tick} {e : Stamp} {l : Line} {p : Row} {ring ends times out : List ℕ} {i from o n : ℕ} {t x : List ℕ} {m at : ℕ} {x′ : List ℕ}
+    → Resending w e l p ring ends times out i from o n t x
+    → Room w e l p out ring ends times → i < p .kept → at ≡ (p .oldest + i) % segmentsMost → {q : Bool} → q ≡ dueOf w (getD t at 0) n → q ≡ true
+    → SentOne x o (encode (e .epoch) (e .number + n + 1) (dataOf (l .given) (span ring) from (getD ends at 0))) m x′
+    → Resending w e l p ring ends times out (i + 1) (getD ends at 0) (o + m) (n + 1) (set t at (w .now)) x′
+resending-send r ok lo is u v d = rw is (send r ok lo (rw is at u) v (rw is at d))
+
 pub resending-all : {w : Tick} {e : Stamp} {l : Line} {p : Row} {ring ends times out : List ℕ} {i from o n : ℕ} {t x : List ℕ}
     → Resending w e l p ring ends times out i from o n t x → i ≤ p .kept → p .kept ≤ i
     → DidResend w e p out ends (resendOf w l (span ring) (p .acked) (segs ends times (p .oldest) (p .kept))) (record { bytes = o; count = n }) t x
@@ -130,7 +143,7 @@ resending-rest : {w : Tick} {e : Stamp} {l : Line} {p : Row} {ring ends times ou
 resending-rest zero r ok b h = rw (add-zero, ← r .starts) r
 resending-rest {w} {p = p} {i = i} {n = n} {t = t} (suc d) r ok b h =
     let s = resending-rest d r ok (omega arith) h in
-    let u = resending-skip s ok (omega arith) refl (due-none w (getD t ((p .oldest + (i + d)) % segmentsMost) 0) n h) in
+    let u = skip s ok (omega arith) refl (due-none w (getD t ((p .oldest + (i + d)) % segmentsMost) 0) n h) in
     let q : i + suc d ≡ i + d + 1 = omega arith in
     rw (q, ← u .starts) u
 

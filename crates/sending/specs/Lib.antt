@@ -12,3 +12,9 @@ pub mod GiveLaws
 pub mod AckLaws
 pub mod OrderLaws
 pub mod BufferLaws
+pub mod True
+pub mod TrueLaws
+pub mod CallLaws
+pub mod TickLaws
+pub mod Past
+pub mod PastLaws

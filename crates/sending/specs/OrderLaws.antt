@@ -55,7 +55,7 @@ chain-grow none a b = none
 chain-grow (one {g} {gs} l m c) a b = one {g = g} {gs = gs} l (omega arith) (chain-grow c (omega arith) b)
 
 -- after the END there is room for nothing
-taken-end : (s : Sending) (bs : List ℕ) → Orderly s → s .given < s .next → takenOf s bs ≡ 0
+pub taken-end : (s : Sending) (bs : List ℕ) → Orderly s → s .given < s .next → takenOf s bs ≡ 0
 taken-end s bs o h =
     let e = room-closed (lineOf s) (s .acked) (omega (arith, o .top, o .closed)) in
     omega arith

@@ -24,7 +24,7 @@ pub and-right : (a b : Bool) → (a && b) ≡ true → b ≡ true
 and-right true b h = h
 and-right false b h = let z : _≡_ {A = ℕ} 0 1 = cc in absurd (omega arith)
 
-and-none : (a b : Bool) → b ≡ false → (a && b) ≡ false
+pub and-none : (a b : Bool) → b ≡ false → (a && b) ≡ false
 and-none true b h = h
 and-none false b h = refl
 

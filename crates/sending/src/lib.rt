@@ -1,7 +1,7 @@
 // The sending side, 01 section 6, with give and finish of section 1.
 ghost use mathlib.Core.Path.{_≡_};
 ghost use mathlib.Core.List.{_++_};
-ghost use Prim.Native.Nat.{ℕ, _+_, _-_, _*_, _≤_, _<_, min};
+ghost use Prim.Native.Nat.{ℕ, _+_, _-_, _*_, _%_, _≤_, _<_, min};
 ghost use lib.ListN.{length};
 ghost use Rattle.ring.specs.Ring.{capacity, span};
 ghost use Rattle.wire.specs.Datagram.{headSize, payloadMost, ceiling, PROBE, headOf, encode};
@@ -131,10 +131,10 @@ pub fn plausible(l: Line, p: Row) -> bool
 fn room(l: Line, acked: u64) -> u64
     ensures { λ r. ⌜ r ≡ roomOf l acked ⌝ }
 {
-    if l.closed == 1 {
-        return 0;
+    if l.closed != 1 {
+        return least(minus(CAPACITY, minus(l.given, acked)), minus(CEILING, l.given));
     }
-    least(minus(CAPACITY, minus(l.given, acked)), minus(CEILING, l.given))
+    0
 }
 
 // Takes as many of the bytes as there is room for, and answers how many.
@@ -263,6 +263,14 @@ fn send_probe(out: &mut [u8], o: usize, e: Stamp, n: u64, position: u64) -> usiz
     32
 }
 
+// The place in the tables of the segment after i older ones.
+fn place(p: Row, i: u64) -> usize
+    requires { ⌜ (p .oldest < segmentsMost) × ((p .kept ≤ segmentsMost) × (i ≤ segmentsMost)) ⌝ }
+    ensures { λ r. ⌜ r ≡ (p .oldest + i) % segmentsMost ⌝ }
+{
+    ((p.oldest + i) % SEGMENTS) as usize
+}
+
 // Whether a segment sent last in tick at is due, and allowed after n others.
 fn due(w: Tick, at: u64, n: u64) -> bool
     ensures { λ r. ⌜ r ≡ dueOf w at n ⌝ }
@@ -283,7 +291,7 @@ fn resend(out: &mut [u8], ring: &[u8], ends: &[u64], times: &mut [u64], w: Tick,
         if w.allowed <= n {
             return Wrote { bytes: o, count: n };
         }
-        let at = ((p.oldest + i) % SEGMENTS) as usize;
+        let at = place(p, i);
         let to = ends[at];
         if due(w, times[at], n) {
             let m = send_data(out, o, ring, e, n, l.given, from, to);
@@ -340,7 +348,7 @@ fn cut(out: &mut [u8], ring: &[u8], ends: &mut [u64], times: &mut [u64], w: Tick
             return Added { bytes: o, count: n, next: a, kept: k };
         }
         let m = send_data(out, o, ring, e, n, l.given, a, to);
-        let at = ((p.oldest + k) % SEGMENTS) as usize;
+        let at = place(p, k);
         ends[at] = to;
         times[at] = w.now;
         a = to;

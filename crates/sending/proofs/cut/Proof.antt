@@ -43,8 +43,8 @@ returns-2 c = search (needs, cutting-nothing)
 send-data-requires : tie.Need-send-data-requires Inv-loop μ-loop
 send-data-requires c κs = search needs
 
-add-at : tie.Need-add-at Inv-loop μ-loop
-add-at c = search needs
+place-requires : tie.Need-place-requires Inv-loop μ-loop
+place-requires c κs = search needs
 
 mul-ends : tie.Need-mul-ends Inv-loop μ-loop
 mul-ends c = search needs
@@ -102,7 +102,7 @@ cut-spec =
     same-length-6
     returns-2
     send-data-requires
-    add-at
+    place-requires
     mul-ends
     slice-write-ends
     mul-times

@@ -23,8 +23,8 @@ same-length-2 c = search needs
 returns : tie.Need-returns Inv-loop μ-loop
 returns c = search (needs, resending-full)
 
-add-at : tie.Need-add-at Inv-loop μ-loop
-add-at c = search needs
+place-requires : tie.Need-place-requires Inv-loop μ-loop
+place-requires c κs = search needs
 
 mul-to : tie.Need-mul-to Inv-loop μ-loop
 mul-to c = search needs
@@ -66,9 +66,7 @@ loop-less c = search needs
 
 loop-again : tie.Need-loop-again Inv-loop μ-loop
 loop-again c = 
-    let l = c .before .before .before .before .before .before .before .before .before .before .before .before .before in
-    let u = c .before .before .before .before .before in
-    (search needs, resending-send (l .loop .inv .1) (c .before .before .before .before .before .before .before .before .before .before .before .before .before .before .before .before .before .before .pre) (search needs) (u .due .ensures) (c .before .before .before .before .if3 .taken) (c .before .before .send-data .ensures))
+    (search needs, resending-send (c .before .before .before .before .before .before .before .before .before .before .before .before .before .loop .inv .1) (c .before .before .before .before .before .before .before .before .before .before .before .before .before .before .before .before .before .before .pre) (search needs) (c .before .before .before .before .before .before .before .before .place .ensures) (c .before .before .before .before .before .due .ensures) (c .before .before .before .before .if3 .taken) (c .before .before .send-data .ensures))
 
 add-i-2 : tie.Need-add-i-2 Inv-loop μ-loop
 add-i-2 c = search needs
@@ -98,7 +96,7 @@ resend-spec =
     same-length
     same-length-2
     returns
-    add-at
+    place-requires
     mul-to
     shared-slice-read-to
     mul-due

@@ -4,9 +4,6 @@ use borrow.Author.Needs.{needs}
 use Rattle.sending.proofs.room.Statement.{statement}
 use Rattle.sending.proofs.room.Tie as tie
 
-returns : tie.Need-returns
-returns c = search (needs, room-closed)
-
 minus-requires : tie.Need-minus-requires
 minus-requires c κs = search needs
 
@@ -19,13 +16,16 @@ minus-requires-3 c κs = search needs
 least-requires : tie.Need-least-requires
 least-requires c κs = search needs
 
-returns-2 : tie.Need-returns-2
-returns-2 c = 
+returns : tie.Need-returns
+returns c = 
     let a = c .before .before .before .before .before .before .args in
     let h = room-open (a .l) (a .acked) (search needs) in
     omega arith
 
+returns-2 : tie.Need-returns-2
+returns-2 c = search (needs, room-closed)
+
 pub room-spec : {M : Type 1} → statement M
 room-spec =
     tie.close
-    (tie.spec returns minus-requires minus-requires-2 minus-requires-3 least-requires returns-2)
+    (tie.spec minus-requires minus-requires-2 minus-requires-3 least-requires returns returns-2)
