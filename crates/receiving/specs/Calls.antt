@@ -49,6 +49,8 @@ pub record Takes (r : List ℕ) (s : Scalars) (d d′ : List ℕ) (s′ : Scalar
   pub same : length d′ ≡ length d
   pub ranged : Ranged s′
   pub count : s′ .taken - s .taken ≤ length d
+  pub up : s .taken ≤ s′ .taken
+  pub few : s′ .taken ≤ s .taken + capacity
   pub done : (m : List ℕ) → Sound s r m → Sound s′ r m
   pub read : (m : List ℕ) → Sound s r m → receivingOf s′ r m ≡ takeOf (receivingOf s r m) (length d)
   pub counted : (m : List ℕ) → Sound s r m → s′ .taken - s .taken ≡ length (gotOf (receivingOf s r m) (length d))
