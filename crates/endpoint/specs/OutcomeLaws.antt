@@ -11,6 +11,8 @@ use Rattle.laws.specs.Rows.{when, _orElse_}
 use Rattle.laws.specs.RowsLaws.{row-left, row-right, passed-lt}
 use Rattle.ring.specs.Ring.{capacity}
 use Rattle.receiving.specs.declared.Scalars.{Scalars}
+use Rattle.receiving.specs.Receiving.{endOf, endAt}
+use Rattle.receiving.specs.ReadLaws.{end-at-small}
 use Rattle.receiving.specs.Calls.{endedBy}
 use Rattle.endpoint.specs.Layout.{Sound, sectionsOf, scalarsOf}
 use Rattle.endpoint.specs.Rows.{outputLeast, intervalRow, shortRow, openedRow, readyOf, outputRow}
@@ -30,17 +32,23 @@ unfolding _orElse_
 or-small zero b k f g = g
 or-small (suc a) b k f g = f
 
+at-most : (b : Bool) (n k : ℕ) → n ≤ k → when b n ≤ k
+at-most b n k h = omega (arith, when-small b n)
+
 pub interval-small : (interval : ℕ) → intervalRow interval ≤ 13
 unfolding intervalRow
-interval-small interval = or-small _ _ 13 (omega (arith, when-small _ 10)) (or-small _ _ 13 (omega (arith, when-small _ 10)) (omega arith))
+interval-small interval = or-small _ _ 13 (at-most _ 10 13 (omega arith)) (or-small _ _ 13 (at-most _ 10 13 (omega arith)) (omega arith))
 
 pub short-small : (t a b : ℕ) → shortRow t a b ≤ 13
 unfolding shortRow
-short-small t a b = or-small _ _ 13 (omega (arith, when-small _ 11)) (or-small _ _ 13 (omega (arith, when-small _ 11)) (or-small _ _ 13 (omega (arith, when-small _ 11)) (omega arith)))
+short-small t a b = or-small _ _ 13 (at-most _ 11 13 (omega arith)) (or-small _ _ 13 (at-most _ 11 13 (omega arith)) (or-small _ _ 13 (at-most _ 11 13 (omega arith)) (omega arith)))
+
+ready-most : (t : List ℕ) (a b : ℕ) → readyOf t a b ≤ 13
+unfolding readyOf openedRow
+ready-most t a b = or-small _ _ 13 (short-small (length t) a b) (at-most _ 12 13 (omega arith))
 
 pub ready-small : (t : List ℕ) (a b r : ℕ) → r ≡ readyOf t a b → r < 64
-unfolding readyOf openedRow
-ready-small t a b r e = omega (arith, or-small _ _ 13 (short-small (length t) a b) (omega (arith, when-small _ 12)))
+ready-small t a b r e = omega (arith, ready-most t a b)
 
 -- FINISH
 pub finish-refused : {t : List ℕ} {r : ℤ} {no : ℕ} → no ≡ readyOf t capacity capacity → (no ≡ 0 → ⊥) → r ≡ answerOf no 0 → Finishes t r t
@@ -80,6 +88,18 @@ take-refused q n a = record {
   table-kept = refl;
   output-kept = refl;
 }
+
+-- what the code computes of take
+pub ended-small : (v : Scalars) (r : ℕ) → r ≡ endedBy v → r ≤ 1
+unfolding endedBy
+ended-small v r e = omega (arith, end-at-small (endOf (v .known) (v .end)) (v .taken))
+
+module _ {t i d : List ℕ} {s v : Scalars} {t' d' : List ℕ} (es : s ≡ scalarsOf (sectionsOf t .receives)) (h : Took t i d v t' d') where
+  pub taken-up : s .taken ≤ v .taken
+  taken-up = rw es (h .takes .up)
+
+  pub taken-few : v .taken - s .taken < 4294967296
+  taken-few = rw es (omega (arith, h .takes .few))
 
 pub take-done : {t i d : List ℕ} {e : ℕ} {r : ℤ} {no : ℕ} {s v : Scalars} {t' d' : List ℕ} {e' : ℕ} → no ≡ readyOf t (length i) capacity → no ≡ 0
     → s ≡ scalarsOf (sectionsOf t .receives) → Took t i d v t' d' → e' ≡ endedBy v → r ≡ answerOf 0 (v .taken - s .taken) → Takes t i d e r t' d' e'

@@ -178,3 +178,17 @@ module _ (t : List ℕ) (a b s : ℕ) (e : s ≡ shortRow (length t) a b) where
     pub ready-unopened : q ≡ false → 12 ≡ readyOf t a b
     unfolding readyOf
     ready-unopened y = miss-row 12 _ _ s e z (unopened-row (sectionsOf t) q f y)
+
+-- what the calls behind the rows ask, from an answer of 0
+module _ (t : List ℕ) (a b r : ℕ) (e : r ≡ readyOf t a b) (z : r ≡ 0) where
+  pub ready-table : tableWords ≤ length t
+  ready-table = ready-is t a b r e z .table-size
+
+  pub ready-first : capacity ≤ a
+  ready-first = ready-is t a b r e z .first-size
+
+  pub ready-second : capacity ≤ b
+  ready-second = ready-is t a b r e z .second-size
+
+  pub ready-sections : Ready (sectionsOf t)
+  ready-sections = ready-is t a b r e z .ready
