@@ -28,7 +28,7 @@ pub record Count (r : ℤ) (n : ℕ) : Type 0 where
 -- OPEN
 -- 10, then 11
 unfoldable pub openRow : ℕ → ℕ → ℕ → ℕ → ℕ → ℕ
-openRow interval table o i m = intervalRow interval orElse shortRow table o i orElse when (ltb m capacity) 11
+openRow interval table o i m = intervalRow interval orElse shortRow table o i orElse when (ltb m capacity) 11 orElse 0
 
 pub record Opens (t o i m : List ℕ) (epoch interval : ℕ) (r : ℤ) (t' m' : List ℕ) : Type 0 where
   pub answer : r ≡ answerOf (openRow interval (length t) (length o) (length i) (length m)) 0

@@ -47,7 +47,6 @@ openOf epoch interval = record {
   receiving = receiving.fresh;
 }
 
-
 -- GIVE, FINISH: what is left of the end stays
 abbrev pub withSending : End → Sending → End
 withSending e s = record {

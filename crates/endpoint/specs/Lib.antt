@@ -10,3 +10,5 @@ pub mod StreamLaws
 pub mod Calls
 pub mod BecameLaws
 pub mod OutcomeLaws
+pub mod Opening
+pub mod OpeningLaws

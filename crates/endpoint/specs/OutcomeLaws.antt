@@ -22,17 +22,17 @@ use Rattle.endpoint.specs.Streams.{Finished, Gave, Took}
 use Rattle.endpoint.specs.BecameLaws.{finish-became, give-became, take-became}
 
 -- REFUSAL NUMBERS ARE SMALL
-when-small : (b : Bool) (n : ℕ) → when b n ≤ n
+pub when-small : (b : Bool) (n : ℕ) → when b n ≤ n
 unfolding when
 when-small true n = omega arith
 when-small false n = omega arith
 
-or-small : (a b k : ℕ) → a ≤ k → b ≤ k → (a orElse b) ≤ k
+pub or-small : (a b k : ℕ) → a ≤ k → b ≤ k → (a orElse b) ≤ k
 unfolding _orElse_
 or-small zero b k f g = g
 or-small (suc a) b k f g = f
 
-at-most : (b : Bool) (n k : ℕ) → n ≤ k → when b n ≤ k
+pub at-most : (b : Bool) (n k : ℕ) → n ≤ k → when b n ≤ k
 at-most b n k h = omega (arith, when-small b n)
 
 pub interval-small : (interval : ℕ) → intervalRow interval ≤ 13

@@ -1,15 +1,42 @@
 // An end on lent buffers: the six calls of 01 section 1, for C and Rust.
 mod answer;
+mod opening;
 mod ready;
 mod stream;
 mod table;
 
-ghost use Rattle.endpoint.specs.Calls.{Gives, Finishes, Takes};
+ghost use Rattle.endpoint.specs.Calls.{Opens, Gives, Finishes, Takes};
 use answer::refusal;
 use answer::value;
 use ready::CAPACITY;
 use ready::ready;
 use table::scalars_in;
+
+// open epoch, R: a fresh end. The table is written in every word that an end relies on, and the marks are cleared.
+#[no_mangle]
+pub extern "C" fn sluice_open(
+    table: &mut [u64],
+    outgoing: &[u8],
+    incoming: &[u8],
+    marks: &mut [u8],
+    epoch: u64,
+    interval: u64,
+) -> i64
+    ensures { λ r. ⌜ Opens (now (table .entry)) (now (outgoing .entry)) (now (incoming .entry)) (now (marks .entry)) epoch interval r (now (table .exit)) (now (marks .exit)) ⌝ }
+{
+    let no = opening::open_row(
+        interval,
+        table.len(),
+        outgoing.len(),
+        incoming.len(),
+        marks.len(),
+    );
+    if no != 0 {
+        return refusal(no);
+    }
+    opening::open_end(table, marks, epoch, interval);
+    value(0)
+}
 
 // give bytes: takes as many of them, from the first on, as there is room for, and answers how many.
 #[no_mangle]
@@ -38,7 +65,12 @@ pub extern "C" fn sluice_finish(table: &mut [u64]) -> i64
 
 // take: hands up as many of the bytes that are next as out has room for, and answers how many; *ended is 1 where the END has been reached.
 #[no_mangle]
-pub extern "C" fn sluice_take(table: &mut [u64], incoming: &[u8], out: &mut [u8], ended: &mut u8) -> i64
+pub extern "C" fn sluice_take(
+    table: &mut [u64],
+    incoming: &[u8],
+    out: &mut [u8],
+    ended: &mut u8,
+) -> i64
     ensures { λ r. ⌜ Takes (now (table .entry)) (now (incoming .entry)) (now (out .entry)) (now (ended .entry)) r (now (table .exit)) (now (out .exit)) (now (ended .exit)) ⌝ }
 {
     let no = ready(table, incoming.len(), CAPACITY);

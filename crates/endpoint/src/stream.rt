@@ -6,13 +6,13 @@ ghost use Rattle.ring.specs.Ring.{capacity};
 ghost use Rattle.endpoint.specs.Layout.{tableWords, sectionsOf};
 ghost use Rattle.endpoint.specs.ReadyLaws.{Ready};
 ghost use Rattle.endpoint.specs.Streams.{Finished, Gave, Took};
-use sending::Line;
-use receiving::Scalars;
 use super::table::Sends;
 use super::table::save_scalars;
 use super::table::save_sends;
 use super::table::scalars_in;
 use super::table::sends_in;
+use receiving::Scalars;
+use sending::Line;
 
 pub fn finish(t: &mut [u64])
     requires { ⌜ (tableWords ≤ length (now t)) × Ready (sectionsOf (now t)) ⌝ }

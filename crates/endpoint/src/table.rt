@@ -2,10 +2,11 @@
 ghost use mathlib.Core.Path.{_≡_};
 ghost use Prim.Native.Nat.{ℕ, _+_, _≤_, _<_};
 ghost use lib.ListN.{length};
+ghost use Rattle.endpoint.specs.Opening.{Saved};
 ghost use Rattle.endpoint.specs.Layout.{tableWords, sectionsOf, commonOf, commonWords, sendsOf, sendsWords, scalarsOf, scalarsWords};
+use receiving::Scalars;
 use sending::Line;
 use sending::Row;
-use receiving::Scalars;
 
 // What belongs to neither side: whether the end was opened, R, the clock, the last number used, whether an ACK is due, and the highest number accepted.
 pub struct Common {
@@ -134,4 +135,13 @@ pub fn save_scalars(w: &mut [u64], s: Scalars)
     w[2] = s.high;
     w[3] = s.known;
     w[4] = s.end;
+}
+
+pub fn save_all(t: &mut [u64], c: Common, s: Sends, v: Scalars)
+    requires { ⌜ tableWords ≤ length (now t) ⌝ }
+    ensures { λ _. ⌜ Saved (now (t .entry)) c s v (now (t .exit)) ⌝ }
+{
+    save_common(&mut t[0..7], c);
+    save_sends(&mut t[7..15], s);
+    save_scalars(&mut t[15..20], v);
 }

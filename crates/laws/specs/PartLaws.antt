@@ -39,9 +39,9 @@ module _ (t y : List ℕ) (a k : ℕ) (fits : a + k ≤ length t) (size : length
       let d₂ : drop k (drop a (putMid a k t y)) ≡ postOf a k t = ap (drop k) d₁ ∙ drop-at y (postOf a k t) k size in
       let d₃ : drop (b - (a + k)) (drop k (drop a (putMid a k t y))) ≡ drop (b - (a + k)) (postOf a k t) = ap (drop (b - (a + k))) d₂ in
       let u : drop (b - (a + k)) (drop k (drop a (putMid a k t y))) ≡ drop b (putMid a k t y) =
-          drop-drop (b - (a + k)) k (drop a (putMid a k t y)) ∙ drop-drop (k + (b - (a + k))) a (putMid a k t y) ∙ ap (λ (x : ℕ). drop x (putMid a k t y)) e in
+      drop-drop (b - (a + k)) k (drop a (putMid a k t y)) ∙ drop-drop (k + (b - (a + k))) a (putMid a k t y) ∙ ap (λ (x : ℕ). drop x (putMid a k t y)) e in
       let v : drop (b - (a + k)) (postOf a k t) ≡ drop b t =
-          drop-drop (b - (a + k)) k (drop a t) ∙ drop-drop (k + (b - (a + k))) a t ∙ ap (λ (x : ℕ). drop x t) e in
+      drop-drop (b - (a + k)) k (drop a t) ∙ drop-drop (k + (b - (a + k))) a t ∙ ap (λ (x : ℕ). drop x t) e in
       ap (take n) (sym u ∙ d₃ ∙ v)
 
 -- a list that was written over whole, word by word

@@ -78,8 +78,8 @@ more {w} {e} {l} {p} {ring} {ends} {times} {out} {a} {k} {o} {n} {b} {t} {x} {m}
     let D = encode (e .epoch) (e .number + n + 1) (dataOf (l .given) (span ring) a to) in
     let W = wire (e .epoch) (e .number) (c .sent) in
     let eD : D ≡ encode (e .epoch) (e .number + length (c .sent) + 1) (dataOf (l .given) (span ring) (c .next) to) =
-        ap (λ (j : ℕ). encode (e .epoch) (e .number + j + 1) (dataOf (l .given) (span ring) a to)) (h .count)
-        ∙ ap (λ (q : ℕ). encode (e .epoch) (e .number + length (c .sent) + 1) (dataOf (l .given) (span ring) q to)) (h .next) in
+    ap (λ (j : ℕ). encode (e .epoch) (e .number + j + 1) (dataOf (l .given) (span ring) a to)) (h .count)
+    ∙ ap (λ (q : ℕ). encode (e .epoch) (e .number + length (c .sent) + 1) (dataOf (l .given) (span ring) q to)) (h .next) in
     let ov : Over (W ++ D) out x′ = rw (d .is) (over-more D D o (length D) (h .wrote) refl (h .bytes) refl) in
     let len : length (W ++ D) ≡ o + m = rw length-append (omega (arith, h .bytes, d .size)) in
     record {

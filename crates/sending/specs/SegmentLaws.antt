@@ -44,8 +44,8 @@ segs-add ends times k n b v h le lt =
       getD-set-same ends c b 0 (omega arith),
       getD-set-same times c v 0 (omega arith),
       segs-same ends (set ends c b) times (set times c v) k n
-      (λ j l. getD-set-other ends c ((k + j) % segmentsMost) b 0 (λ q. omega arith))
-      (λ j l. getD-set-other times c ((k + j) % segmentsMost) v 0 (λ q. omega arith)),
+          (λ j l. getD-set-other ends c ((k + j) % segmentsMost) b 0 (λ q. omega arith))
+          (λ j l. getD-set-other times c ((k + j) % segmentsMost) v 0 (λ q. omega arith)),
     )
 
 -- the oldest stands last
