@@ -12,3 +12,5 @@ pub mod BecameLaws
 pub mod OutcomeLaws
 pub mod Opening
 pub mod OpeningLaws
+pub mod Hearing
+pub mod HearingLaws

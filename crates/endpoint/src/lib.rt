@@ -1,5 +1,6 @@
 // An end on lent buffers: the six calls of 01 section 1, for C and Rust.
 mod answer;
+mod hearing;
 mod opening;
 mod ready;
 mod stream;
