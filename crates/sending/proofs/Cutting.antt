@@ -1,6 +1,6 @@
 -- The loop of cut: what it has done after n datagrams is what the definition does in n turns. Assumes nothing.
 use mathlib.Core.Path.{_≡_, refl, sym, ap, _∙_}
-use mathlib.Core.List.{List, [], _∷_, _++_}
+use mathlib.Core.List.{List, [], _++_}
 use Prim.Native.Nat.{ℕ, suc, _+_, _-_, _*_, _%_, _≤_, _<_}
 use native.Mathlib.Numerals.{add-one}
 use native.Mathlib.Omega.{arith}
@@ -78,8 +78,8 @@ more {w} {e} {l} {p} {ring} {ends} {times} {out} {a} {k} {o} {n} {b} {t} {x} {m}
     let D = encode (e .epoch) (e .number + n + 1) (dataOf (l .given) (span ring) a to) in
     let W = wire (e .epoch) (e .number) (c .sent) in
     let eD : D ≡ encode (e .epoch) (e .number + length (c .sent) + 1) (dataOf (l .given) (span ring) (c .next) to) =
-        ap (λ (j : ℕ). encode (e .epoch) (e .number + j + 1) (dataOf (l .given) (span ring) a to)) (h .count)
-        ∙ ap (λ (q : ℕ). encode (e .epoch) (e .number + length (c .sent) + 1) (dataOf (l .given) (span ring) q to)) (h .next) in
+    ap (λ (j : ℕ). encode (e .epoch) (e .number + j + 1) (dataOf (l .given) (span ring) a to)) (h .count)
+    ∙ ap (λ (q : ℕ). encode (e .epoch) (e .number + length (c .sent) + 1) (dataOf (l .given) (span ring) q to)) (h .next) in
     let ov : Over (W ++ D) out x′ = rw (d .is) (over-more D D o (length D) (h .wrote) refl (h .bytes) refl) in
     let len : length (W ++ D) ≡ o + m = rw length-append (omega (arith, h .bytes, d .size)) in
     record {

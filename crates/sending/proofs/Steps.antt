@@ -1,8 +1,8 @@
 -- The steps, one after the other. Assumes nothing.
 use mathlib.Core.Path.{_≡_, refl, sym, ap, _∙_}
 use mathlib.Core.Bool.{Bool, true, false, _&&_}
-use mathlib.Core.List.{List, [], _∷_, _++_}
-use Prim.Native.Nat.{ℕ, suc, _+_, _-_, _*_, _≤_, _<_}
+use mathlib.Core.List.{List, [], _++_}
+use Prim.Native.Nat.{ℕ, suc, _+_, _-_, _≤_, _<_}
 use native.Mathlib.Numerals.{add-one}
 use native.Mathlib.Omega.{arith}
 use lib.Dec.{eqb, leb, ltb}
@@ -20,7 +20,7 @@ use Rattle.sending.specs.declared.Wrote.{Wrote}
 use Rattle.sending.specs.declared.Added.{Added}
 use Rattle.sending.specs.Steps.{resendOf, Cut, cutOf, cutsOf, agoOf, probesOf, probeOf}
 use Rattle.sending.specs.Buffers.{segs, wordOf}
-use Rattle.sending.specs.Outcome.{datagramMost, SentOne, Room, DidResend, DidCut, DidSend}
+use Rattle.sending.specs.Outcome.{SentOne, DidResend, DidCut, DidSend}
 use Rattle.sending.specs.WireLaws.{wire-more, wire-append, over-rest}
 use Rattle.sending.specs.StepLaws.{cut-same, and-left, and-right}
 
@@ -43,11 +43,11 @@ both w e l p part ends times out r t x c b′ t′ y k d b g =
     let R = resendOf w l part (p .acked) (segs ends times (p .oldest) (p .kept)) in
     let C = cutOf w l part (w .allowed - length (R .sent)) (record { next = p .next; sent = []; kept = R .kept }) in
     let same : cutOf (less w (r .count)) l part (w .allowed - r .count) (record { next = p .next; sent = []; kept = segs ends t (p .oldest) (p .kept) }) ≡ C =
-        cut-same (less w (r .count)) w l part (w .allowed - r .count) _ refl ∙ rw (d .count, d .noted) in
+    cut-same (less w (r .count)) w l part (w .allowed - r .count) _ refl ∙ rw (d .count, d .noted) in
     let f : DidCut (less w (r .count)) (past e (r .count)) p (take k (drop (r .bytes) x)) C c b′ t′ y = rw same at g in
     let n : e .number + r .count ≡ e .number + length (R .sent) = omega (arith, d .count) in
     let ws : wire (e .epoch) (e .number) (C .sent ++ R .sent) ≡ wire (e .epoch) (e .number) (R .sent) ++ wire (e .epoch) (e .number + r .count) (C .sent) =
-        wire-append (e .epoch) (e .number) (C .sent) (R .sent) ∙ rw n in
+    wire-append (e .epoch) (e .number) (C .sent) (R .sent) ∙ rw n in
     record {
       wrote = rw ws (over-rest _ _ out x y (r .bytes) k (d .wrote) (d .bytes) b (f .wrote));
       bytes = rw (ws, length-append) (omega (arith, d .bytes, f .bytes));

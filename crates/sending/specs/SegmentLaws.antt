@@ -1,7 +1,7 @@
 -- Laws of the segments in their tables. Assumes nothing.
-use mathlib.Core.Path.{_≡_, refl, ap, _∙_}
+use mathlib.Core.Path.{_≡_, refl, ap}
 use mathlib.Core.List.{List, [], _∷_, _++_}
-use Prim.Native.Nat.{ℕ, zero, suc, _+_, _-_, _%_, _≤_, _<_}
+use Prim.Native.Nat.{ℕ, zero, suc, _+_, _-_, _%_, _<_}
 use native.Mathlib.Numerals.{add-one}
 use native.Mathlib.Omega.{arith}
 use lib.ListN.{length, getD, set}
@@ -44,8 +44,8 @@ segs-add ends times k n b v h le lt =
       getD-set-same ends c b 0 (omega arith),
       getD-set-same times c v 0 (omega arith),
       segs-same ends (set ends c b) times (set times c v) k n
-      (λ j l. getD-set-other ends c ((k + j) % segmentsMost) b 0 (λ q. omega arith))
-      (λ j l. getD-set-other times c ((k + j) % segmentsMost) v 0 (λ q. omega arith)),
+          (λ j l. getD-set-other ends c ((k + j) % segmentsMost) b 0 (λ q. omega arith))
+          (λ j l. getD-set-other times c ((k + j) % segmentsMost) v 0 (λ q. omega arith)),
     )
 
 -- the oldest stands last

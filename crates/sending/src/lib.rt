@@ -17,6 +17,9 @@ const CAPACITY: u64 = 65536;
 // 2^62.
 const CEILING: u64 = 4611686018427387904;
 
+// The bytes before the payload, and the longest payload.
+const HEAD: usize = 32;
+
 const PAYLOAD: u64 = 1024;
 
 // At most so many segments are kept.
@@ -82,13 +85,22 @@ pub struct Credit {
 pub fn fresh_line() -> Line
     ensures { λ r. ⌜ r ≡ freshLine ⌝ }
 {
-    Line { given: 0, closed: 0, limit: CAPACITY }
+    Line {
+        given: 0,
+        closed: 0,
+        limit: CAPACITY,
+    }
 }
 
 pub fn fresh_row() -> Row
     ensures { λ r. ⌜ r ≡ freshRow ⌝ }
 {
-    Row { acked: 0, next: 0, oldest: 0, kept: 0 }
+    Row {
+        acked: 0,
+        next: 0,
+        oldest: 0,
+        kept: 0,
+    }
 }
 
 fn minus(a: u64, b: u64) -> u64
@@ -132,7 +144,10 @@ fn room(l: Line, acked: u64) -> u64
     ensures { λ r. ⌜ r ≡ roomOf l acked ⌝ }
 {
     if l.closed != 1 {
-        return least(minus(CAPACITY, minus(l.given, acked)), minus(CEILING, l.given));
+        return least(
+            minus(CAPACITY, minus(l.given, acked)),
+            minus(CEILING, l.given),
+        );
     }
     0
 }
@@ -152,7 +167,11 @@ pub fn give(ring: &mut [u8], l: Line, acked: u64, bytes: &[u8]) -> u64
 pub fn finish(l: Line) -> Line
     ensures { λ r. ⌜ r ≡ record { given = l .given; closed = 1; limit = l .limit } ⌝ }
 {
-    Line { given: l.given, closed: 1, limit: l.limit }
+    Line {
+        given: l.given,
+        closed: 1,
+        limit: l.limit,
+    }
 }
 
 // Row 7 for an ACK.
@@ -174,13 +193,23 @@ pub fn ack(ends: &[u64], p: Row, position: u64) -> Row
         let at = (o % SEGMENTS) as usize;
         let to = ends[at];
         if position < to {
-            return Row { acked: acked, next: p.next, oldest: o % SEGMENTS, kept: k };
+            return Row {
+                acked: acked,
+                next: p.next,
+                oldest: o % SEGMENTS,
+                kept: k,
+            };
         }
         acked = to;
         o += 1;
         k -= 1;
     }
-    Row { acked: acked, next: p.next, oldest: o % SEGMENTS, kept: k }
+    Row {
+        acked: acked,
+        next: p.next,
+        oldest: o % SEGMENTS,
+        kept: k,
+    }
 }
 
 // An ACK that grants credit up to `top`, its position + credit: the limit never falls, and where it rises a PROBE is forgotten.
@@ -188,9 +217,15 @@ pub fn grant(limit: u64, probed: u64, top: u64) -> Credit
     ensures { λ r. ⌜ Granted limit probed top r ⌝ }
 {
     if limit < top {
-        return Credit { limit: top, probed: 0 };
+        return Credit {
+            limit: top,
+            probed: 0,
+        };
     }
-    Credit { limit: limit, probed: probed }
+    Credit {
+        limit: limit,
+        probed: probed,
+    }
 }
 
 fn size(given: u64, from: u64, to: u64) -> u64
@@ -219,13 +254,22 @@ fn put_data(out: &mut [u8], ring: &[u8], h: wire::Header)
     ensures { λ _. ⌜ now (out .exit) ≡ headOf h ++ span (now (ring .entry)) (h .position) (h .length) ⌝ }
 {
     let n = h.length as usize;
-    let e = 32 + n;
-    wire::write(&mut out[0..32], h);
-    fetch(&mut out[32..e], n, ring, h.position);
+    let e = HEAD + n;
+    wire::write(&mut out[0..HEAD], h);
+    fetch(&mut out[HEAD..e], n, ring, h.position);
 }
 
 // The DATA of the segment from..to, after n others of this tick, at o of out. Answers its length.
-fn send_data(out: &mut [u8], o: usize, ring: &[u8], e: Stamp, n: u64, given: u64, from: u64, to: u64) -> usize
+fn send_data(
+    out: &mut [u8],
+    o: usize,
+    ring: &[u8],
+    e: Stamp,
+    n: u64,
+    given: u64,
+    from: u64,
+    to: u64,
+) -> usize
     requires { ⌜ (o + datagramMost ≤ length (now out)) × ((length (now ring) ≡ capacity) × (e .number + n < ceiling)) ⌝ }
     ensures { λ r. ⌜ SentOne (now (out .entry)) o (encode (e .epoch) (e .number + n + 1) (dataOf given (span (now (ring .entry))) from to)) r (now (out .exit)) ⌝ }
 {
@@ -240,7 +284,7 @@ fn send_data(out: &mut [u8], o: usize, ring: &[u8], e: Stamp, n: u64, given: u64
         position: from,
         credit: 0,
     };
-    let m = 32 + len as usize;
+    let m = HEAD + len as usize;
     put_data(&mut out[o..o + m], ring, h);
     m
 }
@@ -259,8 +303,8 @@ fn send_probe(out: &mut [u8], o: usize, e: Stamp, n: u64, position: u64) -> usiz
         position: position,
         credit: 0,
     };
-    wire::write(&mut out[o..o + 32], h);
-    32
+    wire::write(&mut out[o..o + HEAD], h);
+    HEAD
 }
 
 // The place in the tables of the segment after i older ones.
@@ -275,11 +319,24 @@ fn place(p: Row, i: u64) -> usize
 fn due(w: Tick, at: u64, n: u64) -> bool
     ensures { λ r. ⌜ r ≡ dueOf w at n ⌝ }
 {
-    if w.every <= minus(w.now, at) { n < w.allowed } else { false }
+    if w.every <= minus(w.now, at) {
+        n < w.allowed
+    } else {
+        false
+    }
 }
 
 // Step 2: sends again what is due, the oldest first.
-fn resend(out: &mut [u8], ring: &[u8], ends: &[u64], times: &mut [u64], w: Tick, e: Stamp, l: Line, p: Row) -> Wrote
+fn resend(
+    out: &mut [u8],
+    ring: &[u8],
+    ends: &[u64],
+    times: &mut [u64],
+    w: Tick,
+    e: Stamp,
+    l: Line,
+    p: Row,
+) -> Wrote
     requires { ⌜ Room w e l p (now out) (now ring) (now ends) (now times) ⌝ }
     ensures { λ r. ⌜ Resends w e l p (now (ring .entry)) (now (ends .entry)) (now (times .entry)) (now (out .entry)) r (now (times .exit)) (now (out .exit)) ⌝ }
 {
@@ -331,7 +388,16 @@ fn cut_to(l: Line, a: u64) -> u64
 }
 
 // Step 3: cuts and sends new segments.
-fn cut(out: &mut [u8], ring: &[u8], ends: &mut [u64], times: &mut [u64], w: Tick, e: Stamp, l: Line, p: Row) -> Added
+fn cut(
+    out: &mut [u8],
+    ring: &[u8],
+    ends: &mut [u64],
+    times: &mut [u64],
+    w: Tick,
+    e: Stamp,
+    l: Line,
+    p: Row,
+) -> Added
     requires { ⌜ Room w e l p (now out) (now ring) (now ends) (now times) ⌝ }
     ensures { λ r. ⌜ Cuts w e l p (now (ring .entry)) (now (ends .entry)) (now (times .entry)) (now (out .entry)) r (now (ends .exit)) (now (times .exit)) (now (out .exit)) ⌝ }
 {
@@ -341,11 +407,21 @@ fn cut(out: &mut [u8], ring: &[u8], ends: &mut [u64], times: &mut [u64], w: Tick
     let mut n: u64 = 0;
     while n < w.allowed {
         if SEGMENTS <= k {
-            return Added { bytes: o, count: n, next: a, kept: k };
+            return Added {
+                bytes: o,
+                count: n,
+                next: a,
+                kept: k,
+            };
         }
         let to = cut_to(l, a);
         if to <= a {
-            return Added { bytes: o, count: n, next: a, kept: k };
+            return Added {
+                bytes: o,
+                count: n,
+                next: a,
+                kept: k,
+            };
         }
         let m = send_data(out, o, ring, e, n, l.given, a, to);
         let at = place(p, k);
@@ -356,21 +432,47 @@ fn cut(out: &mut [u8], ring: &[u8], ends: &mut [u64], times: &mut [u64], w: Tick
         o += m;
         n += 1;
     }
-    Added { bytes: o, count: n, next: a, kept: k }
+    Added {
+        bytes: o,
+        count: n,
+        next: a,
+        kept: k,
+    }
 }
 
 // Steps 2 and 3.
-fn resend_cut(out: &mut [u8], ring: &[u8], ends: &mut [u64], times: &mut [u64], w: Tick, e: Stamp, l: Line, p: Row) -> Added
+fn resend_cut(
+    out: &mut [u8],
+    ring: &[u8],
+    ends: &mut [u64],
+    times: &mut [u64],
+    w: Tick,
+    e: Stamp,
+    l: Line,
+    p: Row,
+) -> Added
     requires { ⌜ Room w e l p (now out) (now ring) (now ends) (now times) ⌝ }
     ensures { λ r. ⌜ Both w e l p (now (ring .entry)) (now (ends .entry)) (now (times .entry)) (now (out .entry)) r (now (ends .exit)) (now (times .exit)) (now (out .exit)) ⌝ }
 {
     let r = resend(out, ring, ends, times, w, e, l, p);
-    let v = Tick { now: w.now, every: w.every, allowed: w.allowed - r.count };
-    let f = Stamp { epoch: e.epoch, number: e.number + r.count };
+    let v = Tick {
+        now: w.now,
+        every: w.every,
+        allowed: w.allowed - r.count,
+    };
+    let f = Stamp {
+        epoch: e.epoch,
+        number: e.number + r.count,
+    };
     let at = r.bytes;
     let end = out.len();
     let c = cut(&mut out[at..end], ring, ends, times, v, f, l, p);
-    Added { bytes: r.bytes + c.bytes, count: r.count + c.count, next: c.next, kept: c.kept }
+    Added {
+        bytes: r.bytes + c.bytes,
+        count: r.count + c.count,
+        next: c.next,
+        kept: c.kept,
+    }
 }
 
 // Whether the last PROBE was R ticks ago or more, or none was sent.
@@ -403,14 +505,36 @@ fn probes(w: Tick, l: Line, probed: u64, next: u64, kept: u64, sent: u64) -> boo
 }
 
 // Steps 2, 3 and 4 of a tick: writes the datagrams one after the other into out.
-pub fn send(out: &mut [u8], ring: &[u8], ends: &mut [u64], times: &mut [u64], w: Tick, e: Stamp, l: Line, p: Row, probed: u64) -> Sent
+pub fn send(
+    out: &mut [u8],
+    ring: &[u8],
+    ends: &mut [u64],
+    times: &mut [u64],
+    w: Tick,
+    e: Stamp,
+    l: Line,
+    p: Row,
+    probed: u64,
+) -> Sent
     requires { ⌜ Room w e l p (now out) (now ring) (now ends) (now times) ⌝ }
     ensures { λ r. ⌜ Sends w e l p probed (now (ring .entry)) (now (ends .entry)) (now (times .entry)) (now (out .entry)) r (now (ends .exit)) (now (times .exit)) (now (out .exit)) ⌝ }
 {
     let c = resend_cut(out, ring, ends, times, w, e, l, p);
     if probes(w, l, probed, c.next, c.kept, c.count) {
         let m = send_probe(out, c.bytes, e, c.count, c.next);
-        return Sent { bytes: c.bytes + m, count: c.count + 1, next: c.next, kept: c.kept, probed: w.now + 1 };
+        return Sent {
+            bytes: c.bytes + m,
+            count: c.count + 1,
+            next: c.next,
+            kept: c.kept,
+            probed: w.now + 1,
+        };
     }
-    Sent { bytes: c.bytes, count: c.count, next: c.next, kept: c.kept, probed: probed }
+    Sent {
+        bytes: c.bytes,
+        count: c.count,
+        next: c.next,
+        kept: c.kept,
+        probed: probed,
+    }
 }

@@ -13,19 +13,19 @@ add-result : tie.Need-add-result
 add-result c = search needs
 
 returns : tie.Need-returns
-returns c = 
+returns c =
     let a = c .before .before .before .before .before .args in
     let n = c .before .before .before .before .new-bytes in
     cut-to-end (a .l) (a .a) (n .result) (n .ensures) (search needs) (search needs)
 
 returns-2 : tie.Need-returns-2
-returns-2 c = 
+returns-2 c =
     let a = c .before .before .before .before .before .args in
     let n = c .before .before .before .before .new-bytes in
     cut-to-more (a .l) (a .a) (n .result) (n .ensures) (search needs) (search needs)
 
 returns-3 : tie.Need-returns-3
-returns-3 c = 
+returns-3 c =
     let a = c .before .before .before .args in
     let n = c .before .before .new-bytes in
     cut-to-open (a .l) (a .a) (n .result) (n .ensures) (search needs)

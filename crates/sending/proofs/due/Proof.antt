@@ -11,7 +11,7 @@ minus-requires c κs = search needs
 
 returns : tie.Need-returns
 unfolding dueOf
-returns c = 
+returns c =
     let w = c .before .before .before .before .args .w in
     let at = c .before .before .before .before .args .at in
     let h : w .every ≤ w .now - at = omega arith in
@@ -19,7 +19,7 @@ returns c =
 
 returns-2 : tie.Need-returns-2
 unfolding dueOf
-returns-2 c = 
+returns-2 c =
     let w = c .before .before .before .args .w in
     let at = c .before .before .before .args .at in
     let h : w .now - at < w .every = omega arith in

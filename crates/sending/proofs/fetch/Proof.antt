@@ -12,7 +12,7 @@ same-length : tie.Need-same-length
 same-length c = search needs
 
 returns : tie.Need-returns
-returns c = 
+returns c =
     let a = c .before .before .before .before .before .before .args in
     got-span (a .ring .now) (c .before .before .ring-get .last .0) (a .pos) (a .n) (length (a .dst .now)) (omega arith) (c .before .before .ring-get .ensures)
 

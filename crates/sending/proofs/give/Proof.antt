@@ -25,7 +25,7 @@ part-ring-put-end : tie.Need-part-ring-put-end
 part-ring-put-end c = search needs
 
 ring-put-requires : tie.Need-ring-put-requires
-ring-put-requires c κs = 
+ring-put-requires c κs =
     let a = c .before .before .before .before .before .before .args in
     let h = room-small (a .l) (a .acked) in
     (search needs, simp length-take (omega arith))
@@ -34,7 +34,7 @@ same-length : tie.Need-same-length
 same-length c = search needs
 
 returns : tie.Need-returns
-returns c = 
+returns c =
     let a = c .before .before .before .before .before .before .before .before .before .args in
     let n = c .before .before .before .before .before .least in
     let p : Put (a .ring .now) (a .l .given) (take (n .result - 0) (a .bytes .now)) (c .before .before .ring-put .last .0) = c .before .before .ring-put .ensures in

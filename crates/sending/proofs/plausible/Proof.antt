@@ -30,7 +30,7 @@ returns-6 : tie.Need-returns-6
 returns-6 c = tells-no (λ h. omega arith)
 
 returns-7 : tie.Need-returns-7
-returns-7 c = 
+returns-7 c =
     let a = c .before .before .before .before .before .before .before .before .before .before .before .before .before .before .args in
     record { yes = λ e. let f = leb-true (a .p .kept) 64 e in omega arith; only = λ h. le-leb (a .p .kept) 64 (h .kept) }
 

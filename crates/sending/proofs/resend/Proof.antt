@@ -1,6 +1,6 @@
 use Rattle.sending.specs.StepLaws.{due-allowed}
 use Rattle.sending.proofs.Resending.{Resending, resending-none, resending-skip, resending-send, resending-full, resending-all}
-use Prim.Native.Nat.{_+_, _-_, _≤_, _<_}
+use Prim.Native.Nat.{_-_, _≤_}
 use borrow.Author.Needs.{needs}
 use Rattle.sending.proofs.resend.Statement.{statement}
 use Rattle.sending.proofs.resend.Tie as tie
@@ -42,7 +42,7 @@ due-requires : tie.Need-due-requires Inv-loop μ-loop
 due-requires c κs = search needs
 
 send-data-requires : tie.Need-send-data-requires Inv-loop μ-loop
-send-data-requires c κs = 
+send-data-requires c κs =
     let f = due-allowed _ _ _ (c .before .before .due .ensures) (c .before .if3 .taken) in
     search needs
 
@@ -65,7 +65,7 @@ loop-less : tie.Need-loop-less Inv-loop μ-loop
 loop-less c = search needs
 
 loop-again : tie.Need-loop-again Inv-loop μ-loop
-loop-again c = 
+loop-again c =
     (search needs, resending-send (c .before .before .before .before .before .before .before .before .before .before .before .before .before .loop .inv .1) (c .before .before .before .before .before .before .before .before .before .before .before .before .before .before .before .before .before .before .pre) (search needs) (c .before .before .before .before .before .before .before .before .place .ensures) (c .before .before .before .before .before .due .ensures) (c .before .before .before .before .if3 .taken) (c .before .before .send-data .ensures))
 
 add-i-2 : tie.Need-add-i-2 Inv-loop μ-loop

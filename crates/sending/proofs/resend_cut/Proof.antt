@@ -29,7 +29,7 @@ cut-requires : tie.Need-cut-requires
 cut-requires c κs = search needs
 
 add-t23 : tie.Need-add-t23
-add-t23 c = 
+add-t23 c =
     let r = c .before .before .before .before .before .before .before .before .before .before .before .before .before .before .before .before .before .before .before .before .resend .ensures in
     let d = c .before .before .before .before .before .before .before .before .cut .ensures in
     omega (arith, r .small, r .few, d .small, d .few, c .before .before .before .before .before .before .before .before .before .before .before .before .before .before .before .before .before .before .before .before .before .before .before .before .before .before .before .before .pre .most)
@@ -47,7 +47,7 @@ same-length-3 : tie.Need-same-length-3
 same-length-3 c = search needs
 
 returns : tie.Need-returns
-returns c = 
+returns c =
     let a = c .before .before .before .before .before .before .before .before .before .before .before .before .before .before .before .before .before .before .before .before .before .before .before .before .before .before .before .before .before .before .args in
     let r = c .before .before .before .before .before .before .before .before .before .before .before .before .before .before .before .before .before .before .before .before .before .before .resend in
     let u = c .before .before .before .before .before .before .before .before .before .before .cut in

@@ -17,7 +17,7 @@ least-requires : tie.Need-least-requires
 least-requires c κs = search needs
 
 returns : tie.Need-returns
-returns c = 
+returns c =
     let a = c .before .before .before .before .before .before .args in
     let h = room-open (a .l) (a .acked) (search needs) in
     omega arith

@@ -14,7 +14,7 @@ probes-requires : tie.Need-probes-requires
 probes-requires c κs = search needs
 
 send-probe-requires : tie.Need-send-probe-requires
-send-probe-requires c κs = 
+send-probe-requires c κs =
     let f = probes-allow _ _ _ _ _ _ (c .before .before .probes .ensures) (c .before .if1 .taken) in
     let d = c .before .before .before .before .before .before .before .before .before .resend-cut .ensures in
     omega (arith, d .small, d .few, c .before .before .before .before .before .before .before .before .before .before .before .before .before .before .before .before .before .pre .out-size, c .before .before .before .before .before .before .before .before .before .before .before .before .before .before .before .before .before .pre .numbers)
@@ -26,7 +26,7 @@ add-t22 : tie.Need-add-t22
 add-t22 c = search needs
 
 add-t23 : tie.Need-add-t23
-add-t23 c = 
+add-t23 c =
     let d = c .before .before .before .before .before .before .before .before .before .before .before .before .before .before .before .resend-cut .ensures in
     omega (arith, d .small, d .few, c .before .before .before .before .before .send-probe .ensures .small, c .before .before .before .before .before .before .before .before .before .before .before .before .before .before .before .before .before .before .before .before .before .before .before .pre .most, c .before .before .before .before .before .before .before .before .before .before .before .before .before .before .before .before .before .before .before .before .before .before .before .pre .now)
 
@@ -41,7 +41,7 @@ same-length-3 c = search needs
 
 returns : tie.Need-returns
 unfolding stepsOf
-returns c = 
+returns c =
     let a = c .before .before .before .before .before .before .before .before .before .before .before .before .before .before .before .before .before .before .before .before .before .before .before .args in
     let r = c .before .before .before .before .before .before .before .before .before .before .before .before .before .before .before .resend-cut in
     let q = c .before .before .before .before .before .before .before .before .probes in
@@ -59,7 +59,7 @@ same-length-6 c = search needs
 
 returns-2 : tie.Need-returns-2
 unfolding stepsOf
-returns-2 c = 
+returns-2 c =
     let a = c .before .before .before .before .before .before .before .before .before .before .before .before .before .before .before .before .args in
     let r = c .before .before .before .before .before .before .before .before .resend-cut in
     let q = c .before .probes in

@@ -39,7 +39,7 @@ same-length : tie.Need-same-length
 same-length c = search needs
 
 returns : tie.Need-returns
-returns c = 
+returns c =
     let a = c .before .before .before .before .before .before .before .before .before .args in
     let z = c .before .before .before .before .before .before .size in
     let f = c .before .before .before .before .before .end-flag in

@@ -30,7 +30,7 @@ same-length : tie.Need-same-length
 same-length c = search needs
 
 returns : tie.Need-returns
-returns c = 
+returns c =
     let a = c .before .before .before .before .before .before .args in
     let y = c .before .before .write in
     sent-probe (a .out .now) (y .last .0) (a .e .epoch) (a .e .number + a .n + 1) (a .position) (a .o) (a .o + 32 - a .o) (omega arith) (y .ensures)
