@@ -5,7 +5,7 @@ use Prim.Native.Nat.{ℕ, suc, _+_, _-_, _%_, _≤_, _<_}
 use native.Mathlib.Omega.{arith}
 use lib.ListN.{getD}
 use Rattle.sending.specs.declared.Row.{Row}
-use Rattle.sending.specs.Sending.{segmentsMost, Segment}
+use Rattle.sending.specs.Sending.{segmentsMost}
 use Rattle.sending.specs.Acking.{leftOf, ackedOf}
 use Rattle.sending.specs.Buffers.{segs, Chain}
 use Rattle.sending.specs.Outcome.{Acked}

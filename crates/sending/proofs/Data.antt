@@ -1,16 +1,16 @@
 -- One datagram, written at its place. Assumes nothing.
-use mathlib.Core.Path.{_≡_, refl, sym, ap, _∙_}
-use mathlib.Core.List.{List, [], _∷_, _++_, append-nil}
-use Prim.Native.Nat.{ℕ, _+_, _-_, _≤_, _<_}
+use mathlib.Core.Path.{_≡_, sym, _∙_}
+use mathlib.Core.List.{List, [], _++_, append-nil}
+use Prim.Native.Nat.{ℕ, _+_, _-_}
 use native.Mathlib.Omega.{arith}
-use lib.ListN.{length, length-append}
+use lib.ListN.{length}
 use borrow.Rule.Slice.PartMut.{putMid}
 use Rattle.ring.specs.Ring.{span}
 use Rattle.ring.specs.SpanLaws.{span-length}
 use Rattle.wire.specs.Datagram.{headSize, PROBE, kindOf, flagsOf, positionOf, creditOf, payloadOf, headOf, headerOf, encode}
 use Rattle.wire.specs.DatagramLaws.{head-length, encode-length}
 use Rattle.sending.specs.Sending.{sizeOf, endOf, dataOf}
-use Rattle.sending.specs.Outcome.{datagramMost, SentOne}
+use Rattle.sending.specs.Outcome.{SentOne}
 
 -- the header and the bytes of a segment's DATA are the datagram
 pub data-is : (given : ℕ) (ring : List ℕ) (e n a b len flags : ℕ) → len ≡ sizeOf given a b → flags ≡ endOf given b

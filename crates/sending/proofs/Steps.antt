@@ -1,8 +1,8 @@
 -- The steps, one after the other. Assumes nothing.
 use mathlib.Core.Path.{_≡_, refl, sym, ap, _∙_}
 use mathlib.Core.Bool.{Bool, true, false, _&&_}
-use mathlib.Core.List.{List, [], _∷_, _++_}
-use Prim.Native.Nat.{ℕ, suc, _+_, _-_, _*_, _≤_, _<_}
+use mathlib.Core.List.{List, [], _++_}
+use Prim.Native.Nat.{ℕ, suc, _+_, _-_, _≤_, _<_}
 use native.Mathlib.Numerals.{add-one}
 use native.Mathlib.Omega.{arith}
 use lib.Dec.{eqb, leb, ltb}
@@ -20,7 +20,7 @@ use Rattle.sending.specs.declared.Wrote.{Wrote}
 use Rattle.sending.specs.declared.Added.{Added}
 use Rattle.sending.specs.Steps.{resendOf, Cut, cutOf, cutsOf, agoOf, probesOf, probeOf}
 use Rattle.sending.specs.Buffers.{segs, wordOf}
-use Rattle.sending.specs.Outcome.{datagramMost, SentOne, Room, DidResend, DidCut, DidSend}
+use Rattle.sending.specs.Outcome.{SentOne, DidResend, DidCut, DidSend}
 use Rattle.sending.specs.WireLaws.{wire-more, wire-append, over-rest}
 use Rattle.sending.specs.StepLaws.{cut-same, and-left, and-right}
 

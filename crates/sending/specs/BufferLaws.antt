@@ -1,15 +1,15 @@
 -- What the functions' promises say of a sound side: it is as the definition has it, and sound. Assumes nothing.
 use mathlib.Core.Path.{_≡_, refl, sym, ap, _∙_}
 use mathlib.Core.Bool.{Bool, true}
-use mathlib.Core.List.{List, [], _∷_, _++_}
-use Prim.Native.Nat.{ℕ, zero, suc, _+_, _-_, _≤_, _<_, min}
+use mathlib.Core.List.{List, [], _++_}
+use Prim.Native.Nat.{ℕ, zero, suc, _+_, _-_, _≤_, _<_}
 use native.Mathlib.Decide.{decLt}
 use native.Mathlib.Nat.{le-of-suc-le-suc, not-suc-le-zero}
 use native.Mathlib.Omega.{arith}
 use lib.ListN.{length, take, drop, length-take}
 use Rattle.laws.specs.Over.{over}
-use Rattle.ring.specs.Ring.{capacity, Put, span}
-use Rattle.ring.specs.SpanLaws.{span-length, put-span}
+use Rattle.ring.specs.Ring.{capacity, span}
+use Rattle.ring.specs.SpanLaws.{put-span}
 use Rattle.wire.specs.Datagram.{wire}
 use Rattle.sending.specs.declared.Tick.{Tick}
 use Rattle.sending.specs.declared.Stamp.{Stamp}
@@ -17,7 +17,7 @@ use Rattle.sending.specs.declared.Line.{Line}
 use Rattle.sending.specs.declared.Row.{Row}
 use Rattle.sending.specs.declared.Sent.{Sent}
 use Rattle.sending.specs.declared.Credit.{Credit}
-use Rattle.sending.specs.Sending.{segmentsMost, Segment, Probed, Sending, fresh, lineOf, startOf, partOf, sizeOf, dataOf}
+use Rattle.sending.specs.Sending.{Segment, Probed, fresh, startOf, partOf, sizeOf, dataOf}
 use Rattle.sending.specs.Giving.{takenOf, giveOf, finishOf}
 use Rattle.sending.specs.Acking.{ackOf}
 use Rattle.sending.specs.Steps.{againOf, resendOf, after, Cut, cutTo, cutOne, cutOf, cutsOf, probeOf, stepsOf, sendOf}

@@ -1,24 +1,22 @@
 -- What each call changes and what it leaves; who may acknowledge, and what is dropped. Assumes nothing.
-use mathlib.Core.Path.{_≡_, refl, sym, ap, _∙_}
-use mathlib.Core.List.{List, [], _∷_, _++_}
-use Prim.Native.Nat.{ℕ, zero, suc, _+_, _-_, _≤_, _<_, min, max}
+use mathlib.Core.Path.{_≡_, refl}
+use mathlib.Core.List.{List, [], _∷_}
+use Prim.Native.Nat.{ℕ, _+_, _-_, _≤_, _<_, max}
 use native.Mathlib.Decide.{decLt}
 use native.Mathlib.Omega.{arith}
 use lib.Dec.{ltb}
-use lib.ListN.{length}
-use borrow.Author.Tests.{ltb-true, ltb-false, lt-ltb, le-ltb}
+use borrow.Author.Tests.{lt-ltb, le-ltb}
 use Rattle.laws.specs.Choice.{if, if-case, ltb-case}
 use Rattle.laws.specs.Rows.{when}
 use Rattle.sending.specs.declared.Tick.{Tick}
-use Rattle.sending.specs.declared.Line.{Line}
-use Rattle.sending.specs.Sending.{Segment, Probed, never, Sending, fresh, lineOf, startOf, partOf}
-use Rattle.sending.specs.Giving.{roomOf, takenOf, giveOf, finishOf}
+use Rattle.sending.specs.Sending.{Segment, never, Sending, lineOf, startOf}
+use Rattle.sending.specs.Giving.{takenOf, giveOf, finishOf}
 use Rattle.sending.specs.Acking.{ackRefusal, leftOf, ackedOf, ackOf}
-use Rattle.sending.specs.Steps.{Cut, cutTo, stepsOf, sendOf}
+use Rattle.sending.specs.Steps.{sendOf}
 use Rattle.sending.specs.Buffers.{Chain, Orderly}
-use Rattle.sending.specs.Buffers.Chain.{none, one}
+use Rattle.sending.specs.Buffers.Chain.{one}
 use Rattle.sending.specs.GiveLaws.{room-closed}
-use Rattle.sending.specs.OrderLaws.{chain-up, dropped}
+use Rattle.sending.specs.OrderLaws.{dropped}
 
 -- GIVE
 pub record Given (s t : Sending) (n : ℕ) : Type 0 where

@@ -1,22 +1,21 @@
 -- Every call keeps a sending side orderly. Assumes nothing.
 use mathlib.Core.Path.{_≡_, refl, sym, ap, _∙_}
-use mathlib.Core.Bool.{Bool, _&&_}
-use mathlib.Core.List.{List, [], _∷_, _++_}
+use mathlib.Core.Bool.{_&&_}
+use mathlib.Core.List.{List, [], _∷_}
 use Prim.Native.Nat.{ℕ, zero, suc, _+_, _-_, _≤_, _<_, min, max}
 use native.Mathlib.Decide.{decLt}
 use native.Mathlib.Omega.{arith}
 use lib.Dec.{eqb, ltb}
-use lib.ListN.{length, take, drop, length-append, length-take, length-drop}
+use lib.ListN.{length, length-append, length-take, length-drop}
 use borrow.Author.Tests.{eqb-true, ltb-true, lt-ltb, le-ltb}
-use Rattle.laws.specs.Choice.{if, if-case}
-use Rattle.ring.specs.Ring.{capacity}
-use Rattle.wire.specs.Datagram.{payloadMost, ceiling}
+use Rattle.laws.specs.Choice.{if-case}
+use Rattle.wire.specs.Datagram.{payloadMost}
 use Rattle.sending.specs.declared.Tick.{Tick}
 use Rattle.sending.specs.declared.Line.{Line}
-use Rattle.sending.specs.Sending.{segmentsMost, Segment, Probed, Sending, fresh, lineOf, startOf, partOf, dataOf}
-use Rattle.sending.specs.Giving.{roomOf, takenOf, giveOf, finishOf}
+use Rattle.sending.specs.Sending.{segmentsMost, Segment, Probed, Sending, fresh, lineOf, startOf, partOf}
+use Rattle.sending.specs.Giving.{takenOf, giveOf, finishOf}
 use Rattle.sending.specs.Acking.{leftOf, ackedOf, ackOf}
-use Rattle.sending.specs.Steps.{Resent, dueOf, againOf, resendOf, Cut, bytesTo, cutTo, cutOne, cutOf, cutsOf, probesOf, Work, probeOf, stepsOf, Sends, sendOf}
+use Rattle.sending.specs.Steps.{Resent, dueOf, againOf, resendOf, Cut, bytesTo, cutTo, cutOne, cutOf, cutsOf, probesOf, Work, probeOf, stepsOf, sendOf}
 use Rattle.sending.specs.Buffers.{Chain, Orderly}
 use Rattle.sending.specs.Buffers.Chain.{none, one}
 use Rattle.sending.specs.GiveLaws.{room-closed, room-small, room-whole}

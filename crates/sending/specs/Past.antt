@@ -1,5 +1,4 @@
 -- 01 §6: the ticks that a sending side remembers are past ones.
-use mathlib.Core.Path.{_≡_}
 use mathlib.Core.List.{List, [], _∷_}
 use Prim.Native.Nat.{ℕ, _≤_}
 use Rattle.sending.specs.Sending.{Segment, Probed, never, tick, Sending}

@@ -1,15 +1,15 @@
 -- Every call keeps the remembered ticks past. Assumes nothing.
-use mathlib.Core.Path.{_≡_, refl}
+use mathlib.Core.Path.{_≡_}
 use mathlib.Core.Bool.{_&&_}
 use mathlib.Core.List.{List, [], _∷_, _++_}
-use Prim.Native.Nat.{ℕ, zero, suc, _+_, _-_, _≤_, _<_}
+use Prim.Native.Nat.{ℕ, zero, suc, _+_, _-_, _≤_}
 use native.Mathlib.Omega.{arith}
 use lib.Dec.{ltb}
 use lib.ListN.{length}
-use Rattle.laws.specs.Choice.{if, if-case}
+use Rattle.laws.specs.Choice.{if-case}
 use Rattle.sending.specs.declared.Tick.{Tick}
 use Rattle.sending.specs.declared.Line.{Line}
-use Rattle.sending.specs.Sending.{segmentsMost, Segment, Probed, never, tick, Sending, fresh, lineOf, partOf}
+use Rattle.sending.specs.Sending.{segmentsMost, Segment, Probed, tick, Sending, fresh, lineOf, partOf}
 use Rattle.sending.specs.Giving.{giveOf, finishOf}
 use Rattle.sending.specs.Acking.{leftOf, ackOf}
 use Rattle.sending.specs.Steps.{Resent, dueOf, againOf, resendOf, Cut, cutTo, cutOne, cutOf, cutsOf, probesOf, Work, probeOf, stepsOf, sendOf}

@@ -1,14 +1,14 @@
 -- 01 §2 and §6: worked examples, computed.
 use mathlib.Core.Path.{_≡_, refl}
 use mathlib.Core.List.{List, [], _∷_, _++_}
-use Prim.Native.Nat.{ℕ, _+_, _*_}
+use Prim.Native.Nat.{ℕ, _+_}
 use lib.ListN.{length, replicate}
 use Rattle.wire.specs.Datagram.{Message, DATA, ACK, PROBE, kindOf, flagsOf, positionOf, creditOf, payloadOf, be, headOf, headerOf, encode, wire}
 use Rattle.sending.specs.declared.Tick.{Tick}
-use Rattle.sending.specs.Sending.{Segment, Probed, never, tick, Sending, fresh, startOf, partOf, dataOf}
+use Rattle.sending.specs.Sending.{never, Sending, fresh, startOf, partOf, dataOf}
 use Rattle.sending.specs.Giving.{roomOf, giveOf, finishOf}
 use Rattle.sending.specs.Acking.{leftOf, ackedOf, ackOf}
-use Rattle.sending.specs.Steps.{dueOf, againOf, resendOf, cutTo, cutOne, cutOf, agoOf, probesOf, probeOf, cutsOf, stepsOf, Sends, sendOf}
+use Rattle.sending.specs.Steps.{dueOf, againOf, resendOf, cutTo, cutOne, cutOf, agoOf, probesOf, probeOf, cutsOf, stepsOf, sendOf}
 
 gate : List ℕ
 gate = 0x47 ∷ 0x41 ∷ 0x54 ∷ 0x45 ∷ 0x20 ∷ 0x33 ∷ 0x20 ∷ 0x54 ∷ 0x4f ∷ 0x20 ∷ 0x34 ∷ 0x30 ∷ 0x20 ∷ 0x43 ∷ 0x4d ∷ 0x0a ∷ []

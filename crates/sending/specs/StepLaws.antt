@@ -1,19 +1,19 @@
 -- Laws of one turn of steps 2 and 3. Assumes nothing.
 use mathlib.Core.Path.{_≡_, refl, sym, ap, _∙_}
 use mathlib.Core.Bool.{Bool, true, false, _&&_}
-use mathlib.Core.List.{List, [], _∷_, _++_}
+use mathlib.Core.List.{List, _∷_}
 use Prim.Native.Nat.{ℕ, zero, suc, _+_, _-_, _≤_, _<_, min}
 use native.Mathlib.Nat.{add-zero, add-suc}
 use native.Mathlib.Numerals.{add-one}
 use native.Mathlib.Omega.{arith}
-use lib.Dec.{eqb, leb, ltb}
+use lib.Dec.{leb, ltb}
 use lib.ListN.{length}
-use borrow.Author.Tests.{eq-eqb, ne-eqb, ltb-true, lt-ltb, le-ltb, leb-true}
+use borrow.Author.Tests.{eq-eqb, ne-eqb, ltb-true, lt-ltb, le-ltb}
 use Rattle.wire.specs.Datagram.{payloadMost}
 use Rattle.sending.specs.declared.Tick.{Tick}
 use Rattle.sending.specs.declared.Line.{Line}
 use Rattle.sending.specs.Sending.{segmentsMost, Segment, startOf, dataOf}
-use Rattle.sending.specs.Steps.{Resent, dueOf, againOf, resendOf, Cut, cutTo, cutOne, cutOf}
+use Rattle.sending.specs.Steps.{dueOf, againOf, resendOf, Cut, cutTo, cutOne, cutOf}
 
 -- two tests
 pub and-left : (a b : Bool) → (a && b) ≡ true → a ≡ true

@@ -1,23 +1,24 @@
 -- What leaves in a tick, and when: the oldest segment again, a new one, a PROBE. Assumes nothing.
 use mathlib.Core.Path.{_≡_, refl, sym, ap, _∙_}
-use mathlib.Core.Bool.{Bool, true, false, _&&_}
-use mathlib.Core.List.{List, [], _∷_, _++_, append-assoc, append-nil}
+use mathlib.Core.Bool.{true, false, _&&_}
+use mathlib.Core.List.{List, [], _∷_, _++_, append-assoc}
 use Prim.Native.Nat.{ℕ, zero, suc, _+_, _-_, _≤_, _<_, min}
 use native.Mathlib.Decide.{decLt}
 use native.Mathlib.Omega.{arith}
 use lib.Dec.{eqb, leb, ltb}
 use lib.ListN.{length, length-append, length-take, length-drop}
-use borrow.Author.Tests.{eqb-true, ltb-true, lt-ltb, le-ltb, le-leb, lt-leb, eq-eqb, ne-eqb}
-use Rattle.laws.specs.Choice.{if, if-case}
+use borrow.Author.Tests.{eqb-true, ltb-true, lt-ltb, le-ltb, le-leb, lt-leb, eq-eqb}
+use Rattle.laws.specs.Choice.{if-case}
 use Rattle.wire.specs.Datagram.{payloadMost, Message, DATA, PROBE}
 use Rattle.sending.specs.declared.Tick.{Tick}
 use Rattle.sending.specs.declared.Line.{Line}
 use Rattle.sending.specs.Sending.{segmentsMost, Segment, Probed, never, tick, Sending, lineOf, startOf, partOf, sizeOf, endOf, dataOf}
 use Rattle.sending.specs.Steps.{Resent, dueOf, againOf, resendOf, Cut, bytesTo, cutTo, cutOne, cutOf, cutsOf, agoOf, probesOf, Work, probeOf, stepsOf, sendOf}
 use Rattle.sending.specs.Buffers.{Chain, Orderly}
-use Rattle.sending.specs.Buffers.Chain.{none, one}
+use Rattle.sending.specs.Buffers.Chain.{one}
 use Rattle.sending.specs.Acking.{ackOf}
 use Rattle.sending.specs.AckLaws.{Beyond, beyond}
+use Rattle.sending.specs.CallLaws.{In, here, there}
 use Rattle.sending.specs.StepLaws.{and-left, and-right, and-none, due-allowed, cut-send, cut-nothing, cut-stays}
 use Rattle.sending.specs.OrderLaws.{acked-next, resend-length, Ends, cut-ends, probe-next, probe-kept}
 
@@ -43,6 +44,13 @@ has-append ys l = record { newer = ys ++ l .newer; older = l .older; is = rw (l 
 
 pub last-has : {A : Type 0} {x : A} {xs : List A} → Last x xs → Has x xs
 last-has l = record { newer = l .newer; older = []; is = l .is }
+
+in-middle : {A : Type 0} {x : A} (ys zs : List A) → In x (ys ++ (x ∷ zs))
+in-middle [] zs = here
+in-middle (y ∷ ys) zs = there (in-middle ys zs)
+
+pub has-in : {A : Type 0} {x : A} {xs : List A} → Has x xs → In x xs
+has-in k = rw (k .is) (in-middle (k .newer) (k .older))
 
 -- a DATA that carries all positions from a to b, the END among them where that is the last
 pub data Covers (a b : ℕ) : Message → Type 0 where

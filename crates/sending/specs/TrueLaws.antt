@@ -1,31 +1,32 @@
 -- A sending side holds and sends only what is true of the bytes that were given. Assumes nothing.
-use mathlib.Core.Path.{_≡_, refl, sym, ap, _∙_}
-use mathlib.Core.Bool.{Bool, _&&_}
-use mathlib.Core.List.{List, [], _∷_, _++_}
-use Prim.Native.Nat.{ℕ, zero, suc, _+_, _-_, _≤_, _<_, min, max}
+use mathlib.Core.Path.{_≡_, refl}
+use mathlib.Core.Bool.{_&&_}
+use mathlib.Core.List.{List, [], _++_}
+use Prim.Native.Nat.{ℕ, zero, suc, _+_, _-_, _≤_, _<_, min}
 use native.Mathlib.Decide.{decLt}
 use native.Mathlib.Omega.{arith}
 use lib.Dec.{eqb, leb, ltb}
-use lib.ListN.{length, take, drop, length-append, length-take, length-drop}
+use lib.ListN.{length, take, length-append, length-take, length-drop}
 use borrow.Author.Tests.{ltb-true, lt-ltb, le-ltb}
-use Rattle.laws.specs.Choice.{if, if-case}
+use Rattle.laws.specs.Choice.{if-case}
 use Rattle.laws.specs.History.{Says}
 use Rattle.laws.specs.History.Says.{none as said}
 use Rattle.laws.specs.HistoryLaws.{says-grow, says-at, says-take, says-drop, says-append, says-end}
-use Rattle.wire.specs.Datagram.{payloadMost, Message, DATA, PROBE}
+use Rattle.wire.specs.Datagram.{Message, DATA}
 use Rattle.sending.specs.declared.Tick.{Tick}
 use Rattle.sending.specs.declared.Line.{Line}
 use Rattle.sending.specs.Sending.{segmentsMost, Segment, Probed, Sending, fresh, lineOf, startOf, partOf, sizeOf, endOf, dataOf}
 use Rattle.sending.specs.Giving.{takenOf, giveOf, finishOf}
 use Rattle.sending.specs.Acking.{ackedOf, ackOf}
 use Rattle.sending.specs.Steps.{Resent, dueOf, againOf, resendOf, Cut, cutTo, cutOne, cutOf, cutsOf, agoOf, probesOf, Work, probeOf, stepsOf, sendOf}
-use Rattle.sending.specs.Buffers.{Chain, Orderly}
+use Rattle.sending.specs.Buffers.{Chain}
 use Rattle.sending.specs.Buffers.Chain.{none, one}
-use Rattle.sending.specs.True.{TrueData, True, Each, SendingOK}
+use Rattle.sending.specs.True.{True, Each, SendingOK}
 use Rattle.sending.specs.True.True.{data-true, probe-true}
 use Rattle.sending.specs.True.Each.{each-none, each-more}
+use Rattle.sending.specs.CallLaws.{In, here, there}
 use Rattle.sending.specs.StepLaws.{and-left, and-right}
-use Rattle.sending.specs.OrderLaws.{orderly-fresh, chain-up, acked-next, taken-end, orderly-give, orderly-finish, dropped, orderly-ack, orderly-send, Ends, cut-ends, Kept, kept-cut, kept-resend, kept-cuts, begun}
+use Rattle.sending.specs.OrderLaws.{orderly-fresh, chain-up, acked-next, taken-end, orderly-give, orderly-finish, dropped, orderly-ack, orderly-send, Ends, cut-ends, Kept, kept-cut, kept-resend, begun}
 
 -- EACH
 pub each-append : {P : Message → Type 0} {ms ks : List Message} → Each P ms → Each P ks → Each P (ms ++ ks)
@@ -35,6 +36,11 @@ each-append (each-more p a) b = each-more p (each-append a b)
 pub each-map : {P Q : Message → Type 0} {ms : List Message} → ((m : Message) → P m → Q m) → Each P ms → Each Q ms
 each-map f each-none = each-none
 each-map f (each-more {m} p a) = each-more (f m p) (each-map f a)
+
+-- what holds of each holds of one of them
+pub each-in : {P : Message → Type 0} {m : Message} {ms : List Message} → Each P ms → In m ms → P m
+each-in (each-more p a) here = p
+each-in (each-more p a) (there i) = each-in a i
 
 -- TRUE stays true: bytes are given before finish only, finish is called, the limit rises
 pub true-grow : {H : List ℕ} {limit : ℕ} {m : Message} (K : List ℕ) → True H 0 limit m → True (H ++ K) 0 limit m

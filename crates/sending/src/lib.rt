@@ -17,6 +17,9 @@ const CAPACITY: u64 = 65536;
 // 2^62.
 const CEILING: u64 = 4611686018427387904;
 
+// The bytes before the payload, and the longest payload.
+const HEAD: usize = 32;
+
 const PAYLOAD: u64 = 1024;
 
 // At most so many segments are kept.
@@ -251,9 +254,9 @@ fn put_data(out: &mut [u8], ring: &[u8], h: wire::Header)
     ensures { λ _. ⌜ now (out .exit) ≡ headOf h ++ span (now (ring .entry)) (h .position) (h .length) ⌝ }
 {
     let n = h.length as usize;
-    let e = 32 + n;
-    wire::write(&mut out[0..32], h);
-    fetch(&mut out[32..e], n, ring, h.position);
+    let e = HEAD + n;
+    wire::write(&mut out[0..HEAD], h);
+    fetch(&mut out[HEAD..e], n, ring, h.position);
 }
 
 // The DATA of the segment from..to, after n others of this tick, at o of out. Answers its length.
@@ -281,7 +284,7 @@ fn send_data(
         position: from,
         credit: 0,
     };
-    let m = 32 + len as usize;
+    let m = HEAD + len as usize;
     put_data(&mut out[o..o + m], ring, h);
     m
 }
@@ -300,8 +303,8 @@ fn send_probe(out: &mut [u8], o: usize, e: Stamp, n: u64, position: u64) -> usiz
         position: position,
         credit: 0,
     };
-    wire::write(&mut out[o..o + 32], h);
-    32
+    wire::write(&mut out[o..o + HEAD], h);
+    HEAD
 }
 
 // The place in the tables of the segment after i older ones.

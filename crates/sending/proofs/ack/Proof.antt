@@ -1,5 +1,5 @@
 use Rattle.sending.proofs.Acking.{Acking, acking-none, acking-more, acking-stop, acking-all}
-use Prim.Native.Nat.{_+_, _-_, _≤_, _<_}
+use Prim.Native.Nat.{_-_}
 use borrow.Author.Needs.{needs}
 use Rattle.sending.proofs.ack.Statement.{statement}
 use Rattle.sending.proofs.ack.Tie as tie

@@ -1,5 +1,5 @@
 use Rattle.sending.proofs.Cutting.{Cutting, cutting-none, cutting-more, cutting-full, cutting-nothing, cutting-all}
-use Prim.Native.Nat.{_+_, _-_, _≤_, _<_}
+use Prim.Native.Nat.{_-_}
 use borrow.Author.Needs.{needs}
 use Rattle.sending.proofs.cut.Statement.{statement}
 use Rattle.sending.proofs.cut.Tie as tie

@@ -1,6 +1,6 @@
 use Rattle.sending.specs.StepLaws.{due-allowed}
 use Rattle.sending.proofs.Resending.{Resending, resending-none, resending-skip, resending-send, resending-full, resending-all}
-use Prim.Native.Nat.{_+_, _-_, _≤_, _<_}
+use Prim.Native.Nat.{_-_, _≤_}
 use borrow.Author.Needs.{needs}
 use Rattle.sending.proofs.resend.Statement.{statement}
 use Rattle.sending.proofs.resend.Tie as tie
