@@ -115,6 +115,7 @@ takes {r} {d} {y} {s} {n} {k} {j} g got e en ej =
     let h : (m : List ℕ) → Sound s r m → y ≡ gotOf (receivingOf s r m) (length d) = λ m x. taken-got s r m y (length d) (taken-heads s r m k x fit (length d) y e gk) in record {
       same = over-length o (omega arith);
       ranged = ranged;
+      rises = omega arith;
       count = omega arith;
       done = λ m x. taken-sound s r m k x fit (record { taken = s .taken + k; low = s .low; high = s .high; known = s .known; end = s .end }) refl ranged;
       read = λ m x. taken-read s r m y (length d) k (taken-heads s r m k x fit (length d) y e gk) l (taken-cells s r m k x fit);
