@@ -12,7 +12,7 @@ use Rattle.wire.specs.Datagram.{ceiling}
 use Rattle.ring.specs.Ring.{capacity}
 use Rattle.receiving.specs.Receiving.{Receiving, at, fillCells, fillOf, hearOf, endOf, of, mark, cellsOf, Ranged, Sound, receivingOf}
 use Rattle.receiving.specs.Steps.{Written, Stored, Placed, Advanced, Unmarked}
-use Rattle.receiving.specs.Calls.{Fills, Hears}
+use Rattle.receiving.specs.Calls.{New, Fills, Hears}
 use Rattle.receiving.proofs.FillingLaws.{filling-cells, lays-filling, moves-cells, order-filling, old-filling, none-filling, after-clear, after-beyond, after-top, follow-clear, follow-beyond, follow-top}
 use Rattle.laws.specs.Split.{split}
 use Rattle.receiving.specs.declared.Scalars.{Scalars}
@@ -23,17 +23,14 @@ filled-read : (r m bs r′ m′ : List ℕ) (s : Scalars) (p low high : ℕ) →
 unfolding receivingOf fillOf
 filled-read r m bs r′ m′ s p low high e = rw e
 
-pub fast-fills : {r bs r′ : List ℕ} {s : Scalars} {p : ℕ} (m : List ℕ) → Ranged s → Written r p bs (s .low) (p + length bs) r′ → s .high ≤ s .low → p ≤ s .low
-    → s .low < p + length bs
-    → p + length bs ≤ s .taken + capacity
-    → p + length bs ≤ ceiling
+pub fast-fills : {r bs r′ : List ℕ} {s : Scalars} {p : ℕ} (m : List ℕ) → Ranged s → New s p (length bs) → Written r p bs (s .low) (p + length bs) r′ → s .high ≤ s .low → p ≤ s .low
     → Fills r m s p bs r′ m (record { taken = s .taken; low = p + length bs; high = p + length bs; known = s .known; end = s .end })
-fast-fills {r} {bs} {r′} {s} {p} m g w hh le hi n₁ n₂ =
+fast-fills {r} {bs} {r′} {s} {p} m g n w hh le =
     let e : ℕ = p + length bs in
-    let up : e ≤ s .taken + capacity = omega arith in
-    let small : e ≤ ceiling = omega arith in
+    let hi = n .new in
+    let up = n .limit in
     let ranged : Ranged (record { taken = s .taken; low = e; high = e; known = s .known; end = s .end }) =
-    record { taken-low = omega arith; low-high = omega arith; high-limit = up; high-small = small } in
+    record { taken-low = omega arith; low-high = omega arith; high-limit = up; high-small = n .small } in
     let zeros : Sound s r m → (q : ℕ) → s .taken ≤ q → q < s .taken + capacity → mark m q ≡ 0 =
     λ x q l h. ⊎-elim (λ b. x .clear .clear q l (omega arith) h) (λ b. x .clear .beyond q (omega arith) h) (split q (s .low)) in record {
       ring-same = w .beside .length-same;
@@ -66,13 +63,15 @@ none-fills {r} {m} {bs} {s} {p} g h = record {
   read = λ x. filled-read r m bs r m s p (s .low) (s .high) (filling-cells (none-filling (of r) (mark m) bs (s .taken) (s .low) p h));
 }
 
-pub slow-fills : {r m r₁ m₁ m′ bs : List ℕ} {s : Scalars} {p top l : ℕ} → Ranged s → Placed r m p bs (s .low) (s .high) r₁ m₁ → Advanced m₁ (s .low) top m′ l
-    → top ≡ max (s .high) (p + length bs) → s .low < p + length bs → 0 < length bs
-    → p + length bs ≤ s .taken + capacity
-    → p + length bs ≤ ceiling
+pub slow-fills : {r m r₁ m₁ m′ bs : List ℕ} {s : Scalars} {p top l : ℕ} → Ranged s → New s p (length bs) → Placed r m p bs (s .low) (s .high) r₁ m₁ → Advanced m₁ (s .low) top m′ l
+    → top ≡ max (s .high) (p + length bs)
     → Fills r m s p bs r₁ m′ (record { taken = s .taken; low = l; high = top; known = s .known; end = s .end })
-slow-fills {r} {m} {r₁} {m₁} {m′} {bs} {s} {p} {top} {l} g la ad et new some up small =
+slow-fills {r} {m} {r₁} {m₁} {m′} {bs} {s} {p} {top} {l} g n la ad et =
     let a : ℕ = max p (s .low) in
+    let new = n .new in
+    let some = n .some in
+    let up = n .limit in
+    let small = n .small in
     let u = ad .moves .low-l in
     let v = ad .moves .l-top in
     let ranged : Ranged (record { taken = s .taken; low = l; high = top; known = s .known; end = s .end }) =
@@ -99,12 +98,15 @@ slow-fills {r} {m} {r₁} {m₁} {m′} {bs} {s} {p} {top} {l} g la ad et new so
     }
 
 -- in order, with bytes beyond
-pub follow-fills : {r m r′ m′ bs : List ℕ} {s : Scalars} {p top l : ℕ} → Ranged s → Written r p bs (s .low) (p + length bs) r′ → Unmarked m (s .low) (p + length bs) 0
+pub follow-fills : {r m r′ m′ bs : List ℕ} {s : Scalars} {p top l : ℕ} → Ranged s → New s p (length bs) → Written r p bs (s .low) (p + length bs) r′ → Unmarked m (s .low) (p + length bs) 0
     → Advanced m (p + length bs) top m′ l
-    → top ≡ max (s .high) (p + length bs) → p ≤ s .low → s .low < p + length bs → p + length bs ≤ s .taken + capacity → p + length bs ≤ ceiling
+    → top ≡ max (s .high) (p + length bs) → p ≤ s .low
     → Fills r m s p bs r′ m′ (record { taken = s .taken; low = l; high = top; known = s .known; end = s .end })
-follow-fills {r} {m} {r′} {m′} {bs} {s} {p} {top} {l} g w free ad et le new up small =
+follow-fills {r} {m} {r′} {m′} {bs} {s} {p} {top} {l} g n w free ad et le =
     let e : ℕ = p + length bs in
+    let new = n .new in
+    let up = n .limit in
+    let small = n .small in
     let u = ad .moves .low-l in
     let v = ad .moves .l-top in
     let ranged : Ranged (record { taken = s .taken; low = l; high = top; known = s .known; end = s .end }) =

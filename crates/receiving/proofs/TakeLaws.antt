@@ -115,6 +115,7 @@ takes {r} {d} {y} {s} {n} {k} {j} g got e en ej =
     let h : (m : List ℕ) → Sound s r m → y ≡ gotOf (receivingOf s r m) (length d) = λ m x. taken-got s r m y (length d) (taken-heads s r m k x fit (length d) y e gk) in record {
       same = over-length o (omega arith);
       ranged = ranged;
+      rises = omega arith;
       count = omega arith;
       up = omega arith;
       few = omega (arith, g .low-high, g .high-limit);

@@ -1,5 +1,5 @@
 -- What the calls of the receiving side ensure: for any contents of the buffers their lengths and the ranges of the scalars, and of buffers that may be read, what is read out of them after.
-use Prim.Native.Nat.{ℕ, _+_, _-_, _≤_}
+use Prim.Native.Nat.{ℕ, _+_, _-_, _≤_, _<_}
 use mathlib.Core.Path.{_≡_}
 use mathlib.Core.List.{List}
 use lib.ListN.{length}
@@ -19,6 +19,14 @@ pub record Lent (s : Scalars) (ring marks : List ℕ) : Type 0 where
 pub record Room (s : Scalars) (p n : ℕ) : Type 0 where
   pub limit : n ≤ s .taken + capacity - p
   pub small : n ≤ ceiling - p
+  pub few : n ≤ capacity
+
+-- and there are some, the last of which lies at the lowest missing position or beyond
+pub record New (s : Scalars) (p n : ℕ) : Type 0 where
+  pub some : 0 < n
+  pub new : s .low < p + n
+  pub limit : p + n ≤ s .taken + capacity
+  pub small : p + n ≤ ceiling
   pub few : n ≤ capacity
 
 -- start: whatever the ring holds, a fresh end
@@ -48,6 +56,7 @@ pub record Hears (r m : List ℕ) (s : Scalars) (p : ℕ) (bs : List ℕ) (e : �
 pub record Takes (r : List ℕ) (s : Scalars) (d d′ : List ℕ) (s′ : Scalars) : Type 0 where
   pub same : length d′ ≡ length d
   pub ranged : Ranged s′
+  pub rises : s .taken ≤ s′ .taken
   pub count : s′ .taken - s .taken ≤ length d
   pub up : s .taken ≤ s′ .taken
   pub few : s′ .taken ≤ s .taken + capacity

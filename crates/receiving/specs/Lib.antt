@@ -1,3 +1,4 @@
+-- 01 §5: definitions, what the calls ensure, and laws.
 pub mod Receiving
 pub mod Steps
 pub mod Calls

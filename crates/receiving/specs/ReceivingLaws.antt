@@ -28,19 +28,23 @@ pub receiving-start : (H : List ℕ) (closed : ℕ) → ReceivingOK H [] closed 
 unfolding fresh
 receiving-start H closed = record { cells = fits-start capacity; says = Says.none; count = refl; ends = unknown; size = length-replicate capacity missing }
 
--- history grows while the peer's host has not called finish
-pub receiving-grow : {H got : List ℕ} {closed : ℕ} {v : Receiving} (K : List ℕ) → closed ≡ 0 → ReceivingOK H got closed v → ReceivingOK (H ++ K) got closed v
-receiving-grow {H} {got} {closed} {v} K z k = record {
+-- history grows: by nothing once the peer's host has called finish
+pub receiving-give : {H got : List ℕ} {closed : ℕ} {v : Receiving} (K : List ℕ) → (closed ≡ 1 → length K ≡ 0) → ReceivingOK H got closed v → ReceivingOK (H ++ K) got closed v
+receiving-give {H} {got} {closed} {v} K z k = record {
   cells = fits-grow K (k .cells);
   says = says-grow K (k .says);
   count = k .count;
-  ends = ends-grow K z (k .ends);
+  ends = ends-grow (k .ends);
   size = k .size;
 }
   where
-    ends-grow : {E : End} (K : List ℕ) → closed ≡ 0 → Ends H closed E → Ends (H ++ K) closed E
-    ends-grow K z unknown = unknown
-    ends-grow K z (known c l) = absurd (omega arith)
+    ends-grow : {E : End} → Ends H closed E → Ends (H ++ K) closed E
+    ends-grow unknown = unknown
+    ends-grow (known {k = q} c l) = let e : q ≡ length (H ++ K) = omega (arith, z c, length-append H K) in known c e
+
+-- so freely until it does
+pub receiving-grow : {H got : List ℕ} {closed : ℕ} {v : Receiving} (K : List ℕ) → closed ≡ 0 → ReceivingOK H got closed v → ReceivingOK (H ++ K) got closed v
+receiving-grow K z k = receiving-give K (λ c. absurd (omega arith)) k
 
 -- and then it does
 pub receiving-close : {H got : List ℕ} {closed : ℕ} {v : Receiving} → ReceivingOK H got closed v → ReceivingOK H got 1 v

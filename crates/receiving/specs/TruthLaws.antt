@@ -1,4 +1,4 @@
--- Statement B's steps for the receiving side: fed only with what is true of its peer's history, it holds and hands up only what is true of it. Assumes nothing.
+-- Laws of bytes and cells that are true of a history. Assumes nothing.
 use Prim.Native.Nat.{ℕ, zero, suc, _+_, _-_, _≤_, _<_}
 use mathlib.Core.Path.{_≡_, refl, ap, sym, _∙_}
 use mathlib.Core.Logic.{⊎-elim}

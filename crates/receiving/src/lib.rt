@@ -6,7 +6,7 @@ ghost use Rattle.wire.specs.Datagram.{ceiling};
 ghost use Rattle.ring.specs.Ring.{capacity};
 ghost use Rattle.receiving.specs.Receiving.{endOf, endAt, beyondOf, misplacedOf, Ranged, plausibleOf};
 ghost use Rattle.receiving.specs.Steps.{Written, Stored, Laid, Placed, Runs, Advanced, Unmarked};
-ghost use Rattle.receiving.specs.Calls.{Lent, Room, Starts, Fills, Hears, Takes, refusal, endedBy, positionBy, creditBy};
+ghost use Rattle.receiving.specs.Calls.{Lent, Room, New, Starts, Fills, Hears, Takes, refusal, endedBy, positionBy, creditBy};
 use ring::CAPACITY;
 
 // 2^62: no byte stands at this position or above.
@@ -152,8 +152,7 @@ fn place(ring: &mut [u8], marks: &mut [u8], p: u64, src: &[u8], low: u64, high: 
 // Out of order, or over positions of which some have arrived.
 fn slow(ring: &mut [u8], marks: &mut [u8], s: Scalars, p: u64, src: &[u8]) -> Scalars
     requires { ⌜ Lent s (now ring) (now marks) ⌝ }
-    requires { ⌜ ((s .low < p + length (now src)) × (p + length (now src) ≤ s .taken + capacity)) × ((0 < length (now src)) × (length (now src) ≤ capacity)) ⌝ }
-    requires { ⌜ p + length (now src) ≤ ceiling ⌝ }
+    requires { ⌜ New s p (length (now src)) ⌝ }
     ensures { λ r. ⌜ Fills (now (ring .entry)) (now (marks .entry)) s p (now (src .entry)) (now (ring .exit)) (now (marks .exit)) r ⌝ }
 {
     let top = most(s.high, p + src.len() as u64);
@@ -189,8 +188,8 @@ fn marked(marks: &[u8], a: u64, b: u64) -> u8
 // In order, and no position has a mark: one copy, and then low passes what has arrived beyond.
 fn follow(ring: &mut [u8], marks: &mut [u8], s: Scalars, p: u64, src: &[u8]) -> Scalars
     requires { ⌜ Lent s (now ring) (now marks) ⌝ }
-    requires { ⌜ ((p ≤ s .low) × (s .low < p + length (now src))) × ((p + length (now src) ≤ s .taken + capacity) × (length (now src) ≤ capacity)) ⌝ }
-    requires { ⌜ p + length (now src) ≤ ceiling ⌝ }
+    requires { ⌜ New s p (length (now src)) ⌝ }
+    requires { ⌜ p ≤ s .low ⌝ }
     requires { ⌜ Unmarked (now marks) (s .low) (p + length (now src)) 0 ⌝ }
     ensures { λ r. ⌜ Fills (now (ring .entry)) (now (marks .entry)) s p (now (src .entry)) (now (ring .exit)) (now (marks .exit)) r ⌝ }
 {
@@ -210,8 +209,8 @@ fn follow(ring: &mut [u8], marks: &mut [u8], s: Scalars, p: u64, src: &[u8]) -> 
 // In order. Where nothing lies beyond the lowest missing position it is one copy, and no mark is touched.
 fn in_order(ring: &mut [u8], marks: &mut [u8], s: Scalars, p: u64, src: &[u8]) -> Scalars
     requires { ⌜ Lent s (now ring) (now marks) ⌝ }
-    requires { ⌜ ((p ≤ s .low) × (s .low < p + length (now src))) × ((p + length (now src) ≤ s .taken + capacity) × (length (now src) ≤ capacity)) ⌝ }
-    requires { ⌜ p + length (now src) ≤ ceiling ⌝ }
+    requires { ⌜ New s p (length (now src)) ⌝ }
+    requires { ⌜ p ≤ s .low ⌝ }
     ensures { λ r. ⌜ Fills (now (ring .entry)) (now (marks .entry)) s p (now (src .entry)) (now (ring .exit)) (now (marks .exit)) r ⌝ }
 {
     let e = p + src.len() as u64;
