@@ -96,7 +96,7 @@ ended-small v r e = omega (arith, end-at-small (endOf (v .known) (v .end)) (v .t
 
 module _ {t i d : List ℕ} {s v : Scalars} {t' d' : List ℕ} (es : s ≡ scalarsOf (sectionsOf t .receives)) (h : Took t i d v t' d') where
   pub taken-up : s .taken ≤ v .taken
-  taken-up = rw es (h .takes .up)
+  taken-up = rw es (h .takes .rises)
 
   pub taken-few : v .taken - s .taken < 4294967296
   taken-few = rw es (omega (arith, h .takes .few))

@@ -117,7 +117,6 @@ takes {r} {d} {y} {s} {n} {k} {j} g got e en ej =
       ranged = ranged;
       rises = omega arith;
       count = omega arith;
-      up = omega arith;
       few = omega (arith, g .low-high, g .high-limit);
       done = λ m x. taken-sound s r m k x fit (record { taken = s .taken + k; low = s .low; high = s .high; known = s .known; end = s .end }) refl ranged;
       read = λ m x. taken-read s r m y (length d) k (taken-heads s r m k x fit (length d) y e gk) l (taken-cells s r m k x fit);

@@ -58,7 +58,6 @@ pub record Takes (r : List ℕ) (s : Scalars) (d d′ : List ℕ) (s′ : Scalar
   pub ranged : Ranged s′
   pub rises : s .taken ≤ s′ .taken
   pub count : s′ .taken - s .taken ≤ length d
-  pub up : s .taken ≤ s′ .taken
   pub few : s′ .taken ≤ s .taken + capacity
   pub done : (m : List ℕ) → Sound s r m → Sound s′ r m
   pub read : (m : List ℕ) → Sound s r m → receivingOf s′ r m ≡ takeOf (receivingOf s r m) (length d)
