@@ -7,6 +7,8 @@ pub enum Pace {
     All,
     /// In this percentage of ticks something, at most this many bytes.
     Some(u64, u64),
+    /// Once in so many ticks, at most this many bytes.
+    Every(u64, u64),
 }
 
 /// A host's plan.

@@ -42,7 +42,8 @@ impl Network for Wild {
 pub enum Manner {
     /// Loses L - 1 of L in a row and delays the other by D.
     Strict,
-    /// As `Strict`, but hands over ACKs that tell nothing new, to be free to lose those that do.
+    /// As `Strict`, but hands over what does no good, to be free to lose what does: ACKs that tell nothing new, and
+    /// what comes in the same tick as another of its row, since one tick brings one ACK.
     Cunning,
     /// Loses and delays at random, often as much as it may.
     Moody,
@@ -57,6 +58,8 @@ pub struct Fair {
     manner: Manner,
     /// The sendings in a row that were lost: of each segment, of ACKs, of PROBEs.
     lost: HashMap<(usize, Row), u64>,
+    /// The tick in which the last one of a row that was not lost comes.
+    comes: HashMap<(usize, Row), u64>,
     /// What the ACKs that were not lost have told: position and limit.
     told: [(u64, u64); 2],
 }
@@ -86,7 +89,7 @@ impl Row {
 impl Fair {
     /// A fair network with choices of its own.
     pub fn new(l: u64, d: u64, manner: Manner, random: Random) -> Fair {
-        Fair { random, l, d, manner, lost: HashMap::new(), told: [(0, 0); 2] }
+        Fair { random, l, d, manner, lost: HashMap::new(), comes: HashMap::new(), told: [(0, 0); 2] }
     }
 
     /// Whether it wants to lose a datagram that it may lose.
@@ -104,6 +107,12 @@ impl Fair {
 impl Network for Fair {
     fn carry(&mut self, from: usize, now: u64, header: &Header, ticks: &mut Vec<u64>) {
         let row = (from, Row::of(header));
+        let comes = self.comes.get(&row).copied().unwrap_or(0);
+        if self.manner == Manner::Cunning && header.kind != Kind::Ack && comes > now {
+            self.lost.insert(row, 0);
+            ticks.push(comes);
+            return;
+        }
         let lost = self.lost.get(&row).copied().unwrap_or(0);
         if lost + 1 < self.l && self.loses(from, header) {
             self.lost.insert(row, lost + 1);
@@ -120,6 +129,7 @@ impl Network for Fair {
             _ => self.d,
         };
         ticks.push(now + delay);
+        self.comes.insert(row, now + delay);
         if self.manner == Manner::Moody && self.random.chance(20) {
             ticks.push(now + delay + self.random.between(0, 40));
         }

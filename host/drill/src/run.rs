@@ -259,7 +259,8 @@ impl<M: Machine, N: Network> Run<M, N> {
         match pace {
             Pace::All => most,
             Pace::Some(percent, bytes) if self.random.chance(percent) => self.random.between(0, bytes).min(most),
-            Pace::Some(..) => 0,
+            Pace::Every(ticks, bytes) if self.now.is_multiple_of(ticks) => bytes.min(most),
+            Pace::Some(..) | Pace::Every(..) => 0,
         }
     }
 

@@ -44,10 +44,9 @@ pub fn trial<M: Machine>((l, d, r): (u64, u64, u64), manner: Manner, seed: u64) 
     let bounds = Bounds::new(l, d, r);
     let mut random = Random::new(seed ^ (l << 40 | d << 20 | r));
     let mut worst = Worst::default();
-    for hosts in plans(&mut random) {
-        let segments = hosts.iter().map(|host| host.offers / 1_024 + 2).sum::<u64>();
-        // Slow hosts may let each small stretch of bytes wait for its own PROBE.
-        let patience = (segments + 20) * 4 * (bounds.acknowledged + 100);
+    for hosts in plans(&mut random, bounds) {
+        let patience =
+            100 * (bounds.acknowledged + 100) * hosts.iter().map(|host| host.offers / 1_024 + 1).sum::<u64>();
         let plan = Plan {
             seed,
             epoch: random.bits(),
@@ -79,23 +78,25 @@ pub fn trial<M: Machine>((l, d, r): (u64, u64, u64), manner: Manner, seed: u64) 
 }
 
 /// Windows of 1, 3 and 16 segments and more, in one direction and in both, and hosts that take slowly.
-fn plans(random: &mut Random) -> Vec<[Host; 2]> {
+fn plans(random: &mut Random, bounds: Bounds) -> Vec<[Host; 2]> {
     let eager = Host::eager;
-    let slowly = Pace::Some(random.between(5, 50), random.pick(&[500, 3_000, 40_000]));
-    let slow = Host { takes: slowly, ..eager(0) };
+    let period = random.between(bounds.acknowledged / 2 + 1, bounds.acknowledged * 2);
+    let slow = Host { takes: Pace::Every(period, random.pick(&[1_500, 5_000, 40_000])), ..eager(0) };
+    let uneven = Host { takes: Pace::Some(random.between(5, 50), random.pick(&[500, 3_000, 40_000])), ..eager(0) };
     vec![
         [eager(1_024), eager(0)],
         [eager(3 * 1_024), eager(100)],
         [eager(16 * 1_024), eager(16 * 1_024)],
         [eager(random.between(1, 70_000)), Host { gives: Pace::Some(20, 300), ..eager(3_000) }],
-        [eager(100_000), slow],
+        [eager(70_000), slow],
+        [eager(100_000), uneven],
     ]
 }
 
 /// All rows, worst case beside the bound.
 pub fn report<M: Machine>(seeds: Seeds) -> Result<String, String> {
     let mut text =
-        String::from("   L   D    R    in hand: worst  bound    acknowledged: worst  bound    new limit: worst");
+        String::from("   L   D    R    in hand: worst  bound    acknowledged: worst  bound    new limit: worst  bound");
     for row @ (l, d, r) in ROWS {
         let runs = seeds.run("fair", |seed| {
             let manners = [Manner::Strict, Manner::Cunning, Manner::Moody];
@@ -105,12 +106,13 @@ pub fn report<M: Machine>(seeds: Seeds) -> Result<String, String> {
         let bounds = Bounds::new(l, d, r);
         write!(
             text,
-            "\n{l:4}{d:4}{r:5}{:18}{:7}{:24}{:7}{:20}",
+            "\n{l:4}{d:4}{r:5}{:18}{:7}{:24}{:7}{:20}{:7}",
             worst(|run| run.hand),
             bounds.hand,
             worst(|run| run.acknowledged),
             bounds.acknowledged,
             worst(|run| run.limit),
+            bounds.acknowledged,
         )
         .expect("a string takes all");
     }

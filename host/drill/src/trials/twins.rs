@@ -65,6 +65,8 @@ struct Twins<M> {
     honest: Vec<Vec<u8>>,
     /// Percentage of datagrams that are honest.
     honesty: u64,
+    /// Percentage of those that get a number about the window.
+    renumbered: u64,
     sum: Sum,
     buffers: [Vec<u8>; 2],
 }
@@ -76,7 +78,8 @@ pub fn trial<M: Machine>(seed: u64, calls: u64) -> Result<Sum, String> {
     let interval = random.pick(&[1, 2, 3, 10, 65_535]);
     let fault = |k| format!("open is refused with {k}");
     let model = End::open(epoch, interval).map_err(|k| fault(k.0))?;
-    let honesty = random.pick(&[20, 60, 90]);
+    let honesty = random.pick(&[20, 60, 90, 100]);
+    let renumbered = random.pick(&[0, 50, 90]);
     let mut twins = Twins {
         tried: M::open(epoch, interval).map_err(fault)?,
         peer: model.clone(),
@@ -86,6 +89,7 @@ pub fn trial<M: Machine>(seed: u64, calls: u64) -> Result<Sum, String> {
         interval,
         honest: Vec::new(),
         honesty,
+        renumbered,
         sum: Sum::default(),
         buffers: [vec![0; RING + 64], vec![0; RING + 64]],
     };
@@ -106,10 +110,11 @@ impl<M: Machine> Twins<M> {
             300..500 => self.tick(),
             500..502 => self.finish(),
             502..504 => self.reopen(),
-            504..700 => {
+            504..650 => {
                 self.peer();
                 Ok(())
             }
+            650..700 => self.exchange(),
             _ => self.datagram(),
         }
     }
@@ -212,14 +217,39 @@ impl<M: Machine> Twins<M> {
         let mut bytes = if !self.honest.is_empty() && self.random.chance(self.honesty) {
             let last = self.honest.len() as u64 - 1;
             let back = if self.random.chance(80) { last.min(40) } else { last };
-            self.honest[(last - self.random.between(0, back)) as usize].clone()
+            let mut bytes = self.honest[(last - self.random.between(0, back)) as usize].clone();
+            if self.random.chance(self.renumbered) {
+                // Crafted numbers run ahead of the peer's; so it goes on being heard.
+                let number = self.number(&self.model.state());
+                bytes[12..20].copy_from_slice(&number.to_be_bytes());
+            }
+            bytes
         } else {
             self.crafted()
         };
         if self.random.chance(20) {
             self.damage(&mut bytes);
         }
-        let answers = (self.tried.datagram(&bytes), self.model.datagram(&bytes).map_err(|k| k.0));
+        self.hand_over(&bytes)
+    }
+
+    /// All that the peer sends in a tick, in any order, some of it lost.
+    fn exchange(&mut self) -> Result<(), String> {
+        let known = self.honest.len();
+        self.peer();
+        let mut fresh = self.honest[known..].to_vec();
+        self.random.shuffle(&mut fresh);
+        for datagram in fresh {
+            if self.random.chance(95) {
+                self.hand_over(&datagram)?;
+            }
+        }
+        Ok(())
+    }
+
+    /// One datagram to both.
+    fn hand_over(&mut self, bytes: &[u8]) -> Result<(), String> {
+        let answers = (self.tried.datagram(bytes), self.model.datagram(bytes).map_err(|k| k.0));
         match answers.1 {
             Ok(()) => self.sum.accepted += 1,
             Err(k) => self.sum.refused[usize::from(k)] += 1,
@@ -262,14 +292,15 @@ impl<M: Machine> Twins<M> {
         if self.random.chance(60) {
             return h.saturating_add(1);
         }
-        if self.random.below(2_000) == 0 {
+        if self.random.below(1_000) == 0 {
             return self.random.pick(&[MOST - 1, MOST, u64::MAX - 1, u64::MAX]);
         }
         let near = h.saturating_sub(self.random.below(1_030));
         let edge = h.saturating_sub(self.random.between(1_022, 1_026));
         let ahead = h.saturating_add(self.random.between(1, 70));
         let jump = h.saturating_add(self.random.between(1_000, 1_030));
-        self.random.pick(&[0, 1, h, near, near, near, edge, edge, ahead, ahead, jump])
+        let ahead = if self.random.chance(5) { jump } else { ahead };
+        self.random.pick(&[0, 1, h, near, near, near, edge, edge, ahead, ahead])
     }
 
     /// A position of DATA about what is taken, missing, granted, and the END.
