@@ -4,7 +4,7 @@ use sluicestream::lent::{Lent, OUTPUT};
 use sluicestream::{Datagrams, ffi};
 
 /// An end that trials can drive. Refusals are their numbers.
-pub trait Machine: Clone {
+pub trait Machine: Sized {
     /// What reports call it.
     const NAME: &'static str;
 

@@ -1,10 +1,11 @@
-fn main() {
-    let long = std::env::args().any(|a| a == "--long");
-    for trial in &drill::trials::TRIALS {
-        let seeds = drill::trials::Seeds::new(if long { 20 * trial.seeds } else { trial.seeds });
-        match drill::trials::run(trial, seeds) {
-            Ok(t) => println!("{t}"),
-            Err(e) => println!("FAILED {e}"),
-        }
-    }
+//! `sluice`: a connection over UDP, a bad network for it, and drills in virtual time.
+
+#![forbid(unsafe_code)]
+
+mod command;
+
+use std::process::ExitCode;
+
+fn main() -> ExitCode {
+    command::main(std::env::args().skip(1).collect())
 }

@@ -115,7 +115,7 @@ pub struct Run<M, N> {
     buffer: Vec<u8>,
 }
 
-impl<M: Machine, N: Network> Run<M, N> {
+impl<M: Machine + Clone, N: Network> Run<M, N> {
     /// Opens both ends; a sending counts as arrived if it is handed over within `within` ticks.
     pub fn new(plan: Plan, network: N, within: u64) -> Result<Self, String> {
         let open = || M::open(plan.epoch, plan.interval).map_err(|k| format!("open refused with {k}"));

@@ -11,7 +11,7 @@ fn first_failure<T>(seeds: u64, mut trial: impl FnMut(u64) -> Result<T, String>)
 }
 
 /// What each kind of trial says of a machine.
-fn findings<M: Machine>() -> [(&'static str, Option<String>); 3] {
+fn findings<M: Machine + Clone>() -> [(&'static str, Option<String>); 3] {
     [
         ("twins", first_failure(60, |seed| twins::trial::<M>(seed, 2_000))),
         ("wild", first_failure(20, wild::trial::<M>)),

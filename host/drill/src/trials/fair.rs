@@ -40,7 +40,7 @@ pub struct Worst {
 }
 
 /// One run; each segment is held to both bounds, and each wait for room to the bound for it.
-pub fn trial<M: Machine>((l, d, r): (u64, u64, u64), manner: Manner, seed: u64) -> Result<Worst, String> {
+pub fn trial<M: Machine + Clone>((l, d, r): (u64, u64, u64), manner: Manner, seed: u64) -> Result<Worst, String> {
     let bounds = Bounds::new(l, d, r);
     let mut random = Random::new(seed ^ (l << 40 | d << 20 | r));
     let mut worst = Worst::default();
@@ -94,11 +94,11 @@ fn plans(random: &mut Random, bounds: Bounds) -> Vec<[Host; 2]> {
 }
 
 /// All rows, worst case beside the bound.
-pub fn report<M: Machine>(seeds: Seeds) -> Result<String, String> {
+pub fn report<M: Machine + Clone>(name: &str, seeds: Seeds) -> Result<String, String> {
     let mut text =
         String::from("   L   D    R    in hand: worst  bound    acknowledged: worst  bound    new limit: worst  bound");
     for row @ (l, d, r) in ROWS {
-        let runs = seeds.run("fair", |seed| {
+        let runs = seeds.run(name, |seed| {
             let manners = [Manner::Strict, Manner::Cunning, Manner::Moody];
             manners.into_iter().map(|manner| trial::<M>(row, manner, seed)).collect::<Result<Vec<_>, _>>()
         })?;

@@ -70,6 +70,16 @@ impl Ground {
         (answer, *ended)
     }
 
+    /// What the four lent buffers hold.
+    fn copy(&mut self) -> Lent {
+        Lent {
+            table: Box::from(&*self.table.all()),
+            outgoing: Box::from(&*self.outgoing.all()),
+            incoming: Box::from(&*self.incoming.all()),
+            marks: Box::from(&*self.marks.all()),
+        }
+    }
+
     fn tick(&mut self) -> i64 {
         ffi::tick(self.table.all(), self.outgoing.all(), self.output.all())
     }
@@ -91,12 +101,6 @@ pub type AtFront = OnGround<true>;
 impl<const FRONT: bool> OnGround<FRONT> {
     fn fresh() -> Self {
         OnGround(Ground::new(if FRONT { Side::Front } else { Side::Back }))
-    }
-}
-
-impl<const FRONT: bool> Clone for OnGround<FRONT> {
-    fn clone(&self) -> Self {
-        unimplemented!("the twins never clone the machine that they try")
     }
 }
 
@@ -139,8 +143,8 @@ impl<const FRONT: bool> Machine for OnGround<FRONT> {
 }
 
 /// Every too-short length of every buffer of every call, on an open end with bytes under way.
-pub fn short_report(seeds: Seeds) -> Result<String, String> {
-    let calls: u64 = seeds.run("short", short)?.into_iter().sum();
+pub fn short_report(name: &str, seeds: Seeds) -> Result<String, String> {
+    let calls: u64 = seeds.run(name, short)?.into_iter().sum();
     Ok(format!("{calls} calls with a buffer too short, all refused; all lent buffers as they were"))
 }
 
@@ -209,9 +213,9 @@ fn too_short(lent: &mut Lent, length: usize, datagram: &[u8], output: &mut [u8])
 }
 
 /// Damaged tables, all seeds; a call that doesn't return ends the process with a line that says so.
-pub fn damaged_report(seeds: Seeds) -> Result<String, String> {
+pub fn damaged_report(name: &str, seeds: Seeds) -> Result<String, String> {
     let watched = Watched::new(Duration::from_secs(60));
-    let runs = seeds.run("damaged", |seed| {
+    let runs = seeds.run(name, |seed| {
         watched.next(seed);
         damaged(seed)
     })?;
@@ -264,9 +268,13 @@ fn damaged(seed: u64) -> Result<(u64, u64), String> {
         bring_about(&mut ground, &mut peer, &mut random);
         damage(&mut ground, &mut random);
         for _ in 0..20 {
-            let answer = call(&mut ground, &mut random)?;
+            let before = random.chance(20).then(|| ground.copy());
+            let (name, answer) = call(&mut ground, &mut random)?;
             calls += 1;
             refused += u64::from(answer < 0);
+            if answer < 0 && before.is_some_and(|before| before != ground.copy()) {
+                return Err(format!("{name} on a damaged table was refused with {} and changed a buffer", -answer));
+            }
         }
     }
     Ok((calls, refused))
@@ -336,7 +344,7 @@ fn damage(ground: &mut Ground, random: &mut Random) {
 }
 
 /// Any call; an error where its answer is impossible.
-fn call(ground: &mut Ground, random: &mut Random) -> Result<i64, String> {
+fn call(ground: &mut Ground, random: &mut Random) -> Result<(&'static str, i64), String> {
     let mut bytes = vec![0; random.below(3_000) as usize];
     random.fill(&mut bytes);
     let (name, answer, most) = match random.below(6) {
@@ -349,7 +357,7 @@ fn call(ground: &mut Ground, random: &mut Random) -> Result<i64, String> {
     if answer < -13 || answer > most as i64 {
         return Err(format!("{name} on a damaged table answers {answer}, where at most {most} is possible"));
     }
-    Ok(answer)
+    Ok((name, answer))
 }
 
 /// A datagram of the right epoch with fields at random.

@@ -64,7 +64,10 @@ impl Drop for Repeat<'_> {
     }
 }
 
-/// A trial by name: what it tries, and how it is run with seeds and a size (1 is the short form).
+/// Calls of the twins for each seed.
+const CALLS: u64 = 2_000;
+
+/// A trial by name.
 pub struct Trial {
     /// What `--trial` calls it.
     pub name: &'static str,
@@ -72,8 +75,8 @@ pub struct Trial {
     pub checks: &'static str,
     /// Seeds of the short form.
     pub seeds: u64,
-    /// Runs it; answers a report.
-    pub run: fn(Seeds) -> Result<String, String>,
+    /// Runs it under its name; answers a report.
+    pub run: fn(&str, Seeds) -> Result<String, String>,
 }
 
 /// Every trial of the proved end.
@@ -131,7 +134,7 @@ pub const TRIALS: [Trial; 8] = [
 /// Runs a trial and says what it checks, what came out, and how long it took.
 pub fn run(trial: &Trial, seeds: Seeds) -> Result<String, String> {
     let start = Instant::now();
-    let report = (trial.run)(seeds)?;
+    let report = (trial.run)(trial.name, seeds)?;
     let mut text = format!("{}: {}\n", trial.name, trial.checks);
     for line in report.lines() {
         writeln!(text, "  {line}").expect("a string takes all");
@@ -142,17 +145,11 @@ pub fn run(trial: &Trial, seeds: Seeds) -> Result<String, String> {
 }
 
 /// Twins, summed up over all seeds; at least one refusal of each number from 1 to 10 must have been seen.
-fn twins_report<M: Machine>(seeds: Seeds) -> Result<String, String> {
-    let name = TRIALS.iter().find(|trial| std::ptr::fn_addr_eq(trial.run, twins_report::<M> as fn(Seeds) -> _));
-    let runs = seeds.run(name.map_or("twins", |trial| trial.name), |seed| twins::<M>(seed))?;
+fn twins_report<M: Machine>(name: &str, seeds: Seeds) -> Result<String, String> {
+    let runs = seeds.run(name, |seed| twins::trial::<M>(seed, CALLS))?;
     let sum = twins::sum(&runs);
     if seeds.count >= 50 && sum.refused[1..=10].contains(&0) {
         return Err(format!("a refusal from 1 to 10 was never seen: {:?}", sum.refused));
     }
     Ok(sum.to_string())
-}
-
-/// Twins with the yardstick as the other machine.
-fn twins<M: Machine>(seed: u64) -> Result<twins::Sum, String> {
-    twins::trial::<M>(seed, 2_000)
 }

@@ -26,7 +26,7 @@ pub struct Outcome {
 }
 
 /// One connection after another of the same pair of ends; the later ones meet the datagrams of the earlier.
-pub fn trial<M: Machine>(seed: u64) -> Result<Outcome, String> {
+pub fn trial<M: Machine + Clone>(seed: u64) -> Result<Outcome, String> {
     let mut random = Random::new(seed);
     let mut earlier = Vec::new();
     let mut outcome = Outcome::default();
@@ -38,7 +38,12 @@ pub fn trial<M: Machine>(seed: u64) -> Result<Outcome, String> {
 }
 
 /// One connection; what it has sent is added to `earlier`.
-fn one<M: Machine>(random: &mut Random, seed: u64, epoch: u64, earlier: &mut Vec<Rc<[u8]>>) -> Result<Outcome, String> {
+fn one<M: Machine + Clone>(
+    random: &mut Random,
+    seed: u64,
+    epoch: u64,
+    earlier: &mut Vec<Rc<[u8]>>,
+) -> Result<Outcome, String> {
     let network = Wild {
         random: Random::new(random.bits()),
         lose: random.pick(&[0.0, 0.02, 0.1, 0.3, 0.6]),
@@ -95,8 +100,8 @@ fn host(random: &mut Random) -> Host {
 }
 
 /// All seeds, summed up.
-pub fn report<M: Machine>(seeds: Seeds) -> Result<String, String> {
-    let runs = seeds.run("wild", trial::<M>)?;
+pub fn report<M: Machine + Clone>(name: &str, seeds: Seeds) -> Result<String, String> {
+    let runs = seeds.run(name, trial::<M>)?;
     let sum = |field: fn(&Outcome) -> u64| runs.iter().map(field).sum::<u64>();
     let most = |field: fn(&Outcome) -> u64| runs.iter().map(field).max().unwrap_or(0);
     Ok(format!(
