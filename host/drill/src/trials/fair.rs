@@ -94,7 +94,7 @@ fn plans(random: &mut Random, bounds: Bounds) -> Vec<[Host; 2]> {
 }
 
 /// All rows, worst case beside the bound.
-pub fn report<M: Machine + Clone>(name: &str, seeds: Seeds) -> Result<String, String> {
+pub fn report<M: Machine + Clone>(name: &'static str, seeds: Seeds) -> Result<String, String> {
     let mut text =
         String::from("   L   D    R    in hand: worst  bound    acknowledged: worst  bound    new limit: worst  bound");
     for row @ (l, d, r) in ROWS {

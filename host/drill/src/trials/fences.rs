@@ -80,6 +80,13 @@ impl Ground {
         }
     }
 
+    fn restore(&mut self, lent: &Lent) {
+        self.table.all().copy_from_slice(&lent.table);
+        self.outgoing.all().copy_from_slice(&lent.outgoing);
+        self.incoming.all().copy_from_slice(&lent.incoming);
+        self.marks.all().copy_from_slice(&lent.marks);
+    }
+
     fn tick(&mut self) -> i64 {
         ffi::tick(self.table.all(), self.outgoing.all(), self.output.all())
     }
@@ -143,7 +150,7 @@ impl<const FRONT: bool> Machine for OnGround<FRONT> {
 }
 
 /// Every too-short length of every buffer of every call, on an open end with bytes under way.
-pub fn short_report(name: &str, seeds: Seeds) -> Result<String, String> {
+pub fn short_report(name: &'static str, seeds: Seeds) -> Result<String, String> {
     let calls: u64 = seeds.run(name, short)?.into_iter().sum();
     Ok(format!("{calls} calls with a buffer too short, all refused; all lent buffers as they were"))
 }
@@ -213,7 +220,7 @@ fn too_short(lent: &mut Lent, length: usize, datagram: &[u8], output: &mut [u8])
 }
 
 /// Damaged tables, all seeds; a call that doesn't return ends the process with a line that says so.
-pub fn damaged_report(name: &str, seeds: Seeds) -> Result<String, String> {
+pub fn damaged_report(name: &'static str, seeds: Seeds) -> Result<String, String> {
     let watched = Watched::new(Duration::from_secs(60));
     let runs = seeds.run(name, |seed| {
         watched.next(seed);
@@ -264,16 +271,20 @@ fn damaged(seed: u64) -> Result<(u64, u64), String> {
     let mut ground = Ground::new(random.pick(&[Side::Front, Side::Back]));
     let mut peer = yardstick::End::open(7, 3).map_err(|k| format!("open refused with {}", k.0))?;
     let (mut calls, mut refused) = (0, 0);
-    for _ in 0..60 {
+    for _ in 0..20 {
         bring_about(&mut ground, &mut peer, &mut random);
-        damage(&mut ground, &mut random);
-        for _ in 0..20 {
-            let before = random.chance(20).then(|| ground.copy());
-            let (name, answer) = call(&mut ground, &mut random)?;
-            calls += 1;
-            refused += u64::from(answer < 0);
-            if answer < 0 && before.is_some_and(|before| before != ground.copy()) {
-                return Err(format!("{name} on a damaged table was refused with {} and changed a buffer", -answer));
+        let sound = ground.copy();
+        for _ in 0..12 {
+            ground.restore(&sound);
+            damage(&mut ground, &mut random);
+            for _ in 0..12 {
+                let before = random.chance(20).then(|| ground.copy());
+                let (name, answer) = call(&mut ground, &mut random)?;
+                calls += 1;
+                refused += u64::from(answer < 0);
+                if answer < 0 && before.is_some_and(|before| before != ground.copy()) {
+                    return Err(format!("{name} on a damaged table was refused with {} and changed a buffer", -answer));
+                }
             }
         }
     }
@@ -311,8 +322,10 @@ fn bring_about(ground: &mut Ground, peer: &mut yardstick::End, random: &mut Rand
 /// Words that a table may hold by mistake.
 fn word(random: &mut Random, old: u64) -> u64 {
     let any = random.bits();
+    let small = random.below(100_000);
+    let huge = 1 << random.below(64);
     random
-        .pick(&[0, 1, 63, 64, 65, 65_535, 65_536, 1 << 62, (1 << 62) - 1, 1 << 63, u64::MAX, u64::MAX - 1, any])
+        .pick(&[0, 1, 63, 64, 65, 200, small, 65_535, 65_536, huge, 1 << 62, (1 << 62) - 1, u64::MAX, any])
         .wrapping_add(if random.chance(30) { old } else { 0 })
 }
 

@@ -8,6 +8,7 @@ pub mod wild;
 use std::fmt::Write;
 use std::time::Instant;
 
+use crate::fence;
 use crate::machine::{Compared, Machine};
 use fences::{AtBack, AtFront};
 
@@ -30,10 +31,11 @@ impl Seeds {
     }
 
     /// Runs a trial for each seed; a failure names the seed and how to repeat it.
-    pub fn run<T>(self, name: &str, mut trial: impl FnMut(u64) -> Result<T, String>) -> Result<Vec<T>, String> {
+    pub fn run<T>(self, name: &'static str, mut trial: impl FnMut(u64) -> Result<T, String>) -> Result<Vec<T>, String> {
         let mut results = Vec::new();
         for seed in self.first..self.first + self.count {
             let repeat = Repeat { name, seed };
+            fence::announce(name, seed);
             match trial(seed) {
                 Ok(result) => results.push(result),
                 Err(why) => return Err(format!("{why}\n  {repeat}")),
@@ -44,19 +46,19 @@ impl Seeds {
 }
 
 /// Says how to repeat a trial, also where it panics.
-struct Repeat<'a> {
-    name: &'a str,
+struct Repeat {
+    name: &'static str,
     seed: u64,
 }
 
-impl std::fmt::Display for Repeat<'_> {
+impl std::fmt::Display for Repeat {
     fn fmt(&self, f: &mut std::fmt::Formatter<'_>) -> std::fmt::Result {
         let (name, seed) = (self.name, self.seed);
         write!(f, "trial {name}, seed {seed}; repeat with: sluice drill --trial {name} --seed {seed}")
     }
 }
 
-impl Drop for Repeat<'_> {
+impl Drop for Repeat {
     fn drop(&mut self) {
         if std::thread::panicking() {
             eprintln!("{self}");
@@ -76,7 +78,7 @@ pub struct Trial {
     /// Seeds of the short form.
     pub seeds: u64,
     /// Runs it under its name; answers a report.
-    pub run: fn(&str, Seeds) -> Result<String, String>,
+    pub run: fn(&'static str, Seeds) -> Result<String, String>,
 }
 
 /// Every trial of the proved end.
@@ -126,7 +128,7 @@ pub const TRIALS: [Trial; 8] = [
     Trial {
         name: "damaged",
         checks: "damaged tables and marks between pages that nobody may touch: every call returns",
-        seeds: 60,
+        seeds: 30,
         run: fences::damaged_report,
     },
 ];
@@ -145,7 +147,7 @@ pub fn run(trial: &Trial, seeds: Seeds) -> Result<String, String> {
 }
 
 /// Twins, summed up over all seeds; at least one refusal of each number from 1 to 10 must have been seen.
-fn twins_report<M: Machine>(name: &str, seeds: Seeds) -> Result<String, String> {
+fn twins_report<M: Machine>(name: &'static str, seeds: Seeds) -> Result<String, String> {
     let runs = seeds.run(name, |seed| twins::trial::<M>(seed, CALLS))?;
     let sum = twins::sum(&runs);
     if seeds.count >= 50 && sum.refused[1..=10].contains(&0) {

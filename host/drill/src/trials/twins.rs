@@ -104,6 +104,10 @@ impl<M: Machine> Twins<M> {
     /// One random call.
     fn call(&mut self) -> Result<(), String> {
         self.sum.calls += 1;
+        if self.model.state().highest >= MOST - 1 && self.random.chance(3) {
+            // A very high number has shut out all that follow: enough of that.
+            return self.reopen();
+        }
         match self.random.below(1_000) {
             0..150 => self.give(),
             150..300 => self.take(),
@@ -239,8 +243,13 @@ impl<M: Machine> Twins<M> {
         self.peer();
         let mut fresh = self.honest[known..].to_vec();
         self.random.shuffle(&mut fresh);
-        for datagram in fresh {
+        let renumbered = self.random.chance(self.renumbered);
+        for mut datagram in fresh {
             if self.random.chance(95) {
+                if renumbered {
+                    let number = self.model.state().highest.saturating_add(1);
+                    datagram[12..20].copy_from_slice(&number.to_be_bytes());
+                }
                 self.hand_over(&datagram)?;
             }
         }

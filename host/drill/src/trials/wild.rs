@@ -100,7 +100,7 @@ fn host(random: &mut Random) -> Host {
 }
 
 /// All seeds, summed up.
-pub fn report<M: Machine + Clone>(name: &str, seeds: Seeds) -> Result<String, String> {
+pub fn report<M: Machine + Clone>(name: &'static str, seeds: Seeds) -> Result<String, String> {
     let runs = seeds.run(name, trial::<M>)?;
     let sum = |field: fn(&Outcome) -> u64| runs.iter().map(field).sum::<u64>();
     let most = |field: fn(&Outcome) -> u64| runs.iter().map(field).max().unwrap_or(0);
