@@ -26,7 +26,7 @@ fi
 (cd "$here" && cargo build --release --offline --quiet --package drill)
 sluice=$here/target/release/sluice
 
-# Three addresses that are free just now, so that two demos do not meet.
+# Addresses of this process's own, so that two demos do not meet.
 port=$((20000 + $$ % 20000))
 room=127.0.0.1:$port
 relay=127.0.0.1:$((port + 1))

@@ -1,13 +1,13 @@
 //! `sluice drill`: two ends in virtual time, and the trials.
 
-use std::fmt::Write;
+use std::fmt::Display;
 
-use drill::flow::Bounds;
+use drill::flow::{Bounds, Flow};
 use drill::host::Host;
 use drill::machine::Machine;
 use drill::network::{Fair, Manner, Network, Wild};
 use drill::random::Random;
-use drill::run::{Plan, Run};
+use drill::run::{Plan, Run, Seen};
 use drill::trials::{self, Seeds, TRIALS};
 
 use super::options::Options;
@@ -133,14 +133,31 @@ fn table<M: Machine + Clone, N: Network>(
     }
     let l = l.unwrap_or(run.lost_in_row + 1);
     let bounds = (d <= 32).then(|| Bounds::new(l, d, interval));
-    let mut text = format!("{} in {} ticks, L {l}, D {d}, R {interval}\n", M::NAME, run.now);
-    let mut line = |name: &str, values: [String; 2]| {
-        writeln!(text, "{name:<28}{:>20}{:>20}", values[0], values[1]).expect("a string takes all");
-    };
-    let flow = |field: fn(&drill::flow::Flow) -> u64| [0, 1].map(|side| field(&run.flows[side]).to_string());
-    let seen = |field: fn(&drill::run::Seen) -> u64| [0, 1].map(|side| field(&run.seen[side]).to_string());
-    line("", ["end 0".into(), "end 1".into()]);
-    line("bytes offered", offered.map(|offered| offered.to_string()));
+    say(&format!("{} in {} ticks, L {l}, D {d}, R {interval}\n", M::NAME, run.now));
+    line("", ["end 0", "end 1"]);
+    line("bytes offered", offered);
+    counts(&run);
+    worst(&run, bounds);
+    if !run.done() {
+        return Err(Stop::Failed(format!("not through after {ticks} ticks")));
+    }
+    let missed =
+        |flow: &Flow, bounds: Bounds| flow.worst.hand > bounds.hand || flow.worst.acknowledged > bounds.acknowledged;
+    if bounds.is_some_and(|bounds| run.flows.iter().any(|flow| missed(flow, bounds))) {
+        return Err(Stop::Failed("a bound was missed".into()));
+    }
+    Ok(())
+}
+
+/// A line of the table: a value for each end.
+fn line<T: Display>(name: &str, [first, second]: [T; 2]) {
+    say(&format!("{name:<28}{first:>20}{second:>20}\n"));
+}
+
+/// What was delivered, sent and refused.
+fn counts<M, N>(run: &Run<M, N>) {
+    let flow = |field: fn(&Flow) -> u64| [0, 1].map(|side| field(&run.flows[side]));
+    let seen = |field: fn(&Seen) -> u64| [0, 1].map(|side| field(&run.seen[side]));
     line("bytes delivered", flow(|flow| flow.taken));
     line("datagrams sent", seen(|seen| seen.sent));
     line("of those, ACKs", seen(|seen| seen.acks));
@@ -149,9 +166,13 @@ fn table<M: Machine + Clone, N: Network>(
     line("datagrams accepted", seen(|seen| seen.accepted));
     for k in 1..14 {
         if run.seen.iter().any(|seen| seen.refused[k] > 0) {
-            line(&format!("datagrams refused with {k}"), [0, 1].map(|side| run.seen[side].refused[k].to_string()));
+            line(&format!("datagrams refused with {k}"), [0, 1].map(|side| run.seen[side].refused[k]));
         }
     }
+}
+
+/// The worst ticks of both ends beside the bounds, where the network has any.
+fn worst<M, N>(run: &Run<M, N>, bounds: Option<Bounds>) {
     let beside = |worst: u64, bound: Option<u64>| match bound {
         Some(bound) => format!("{worst} of {bound}"),
         None => format!("{worst}, no bound"),
@@ -160,13 +181,4 @@ fn table<M: Machine + Clone, N: Network>(
     line("worst ticks to hand", worst.map(|worst| beside(worst.hand, bounds.map(|bounds| bounds.hand))));
     let acknowledged = bounds.map(|bounds| bounds.acknowledged);
     line("worst ticks to acknowledge", worst.map(|worst| beside(worst.acknowledged, acknowledged)));
-    say(&text);
-    if !run.done() {
-        return Err(Stop::Failed(format!("not through after {ticks} ticks")));
-    }
-    let missed = |bounds: Bounds| worst.iter().any(|w| w.hand > bounds.hand || w.acknowledged > bounds.acknowledged);
-    if bounds.is_some_and(missed) {
-        return Err(Stop::Failed("a bound was missed".into()));
-    }
-    Ok(())
 }

@@ -27,14 +27,15 @@ sluice pipe: joins standard input and output of two hosts by one connection over
   --summary       tell at the end, on standard error, what was sent and received
 
 What is read from standard input is written to the peer's standard output, and the other way round. It ends when both
-streams have ended and both ENDs are acknowledged; then it goes on answering for 10 * R quiet ticks, since its last ACK
-may have been lost. Progress is shown on standard error where that is a terminal.
+streams have ended and both ENDs are acknowledged; then it goes on answering until the peer has been quiet for 10 * R
+ticks, at least half a second, since its last ACK may have been lost. Progress is shown on standard error where that is a terminal.
 ";
 
 /// How often progress is shown.
 const SHOWN: Duration = Duration::from_millis(200);
-/// Quiet ticks before leaving, in resend intervals.
+/// How long the peer must be quiet before leaving: resend intervals, and at least so many milliseconds.
 const LINGER: u64 = 10;
+const LINGER_LEAST: u64 = 500;
 /// Bytes that are read from standard input at a time.
 const CHUNK: usize = 16_384;
 /// Chunks that wait between the threads.
@@ -134,7 +135,9 @@ impl Pipe {
         let terminal = std::io::stderr().is_terminal();
         let mut output = Some(output);
         let mut next = Instant::now() + self.settings.tick;
-        while !(self.acknowledged && output.is_none() && self.quiet > LINGER * self.settings.interval) {
+        let least = LINGER_LEAST / self.settings.tick.as_millis() as u64;
+        let linger = (LINGER * self.settings.interval).max(least);
+        while !(self.acknowledged && output.is_none() && self.quiet > linger) {
             self.listen(packets, next)?;
             self.give(&input)?;
             self.take(&mut output)?;
