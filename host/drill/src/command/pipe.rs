@@ -28,7 +28,9 @@ sluice pipe: joins standard input and output of two hosts by one connection over
 
 What is read from standard input is written to the peer's standard output, and the other way round. It ends when both
 streams have ended and both ENDs are acknowledged; then it goes on answering until the peer has been quiet for 10 * R
-ticks, at least half a second, since its last ACK may have been lost. Progress is shown on standard error where that is a terminal.
+ticks, at least half a second, since its last ACK may have been lost. A pipe that waits for the peer to say something
+waits as long as it takes; --patience is about what it has sent itself. Progress is shown on standard error where that
+is a terminal.
 ";
 
 /// How often progress is shown.
@@ -150,8 +152,8 @@ impl Pipe {
         }
         let result = written.recv().unwrap_or(Ok(()));
         if terminal || self.settings.summary {
-            let line = if terminal { "\r" } else { "" };
-            let _ = writeln!(std::io::stderr(), "{line}{}", self.summary());
+            let (start, rest) = if terminal { ("\r", "\x1b[K") } else { ("", "") };
+            let _ = writeln!(std::io::stderr(), "{start}{}{rest}", self.summary());
         }
         result.map_err(Stop::Failed)
     }
