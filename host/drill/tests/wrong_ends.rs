@@ -15,7 +15,7 @@ fn findings<M: Machine + Clone>() -> [(&'static str, Option<String>); 3] {
     [
         ("twins", first_failure(60, |seed| twins::trial::<M>(seed, 2_000))),
         ("wild", first_failure(20, wild::trial::<M>)),
-        ("fair", first_failure(3, |seed| fair::trial::<M>((3, 8, 10), Manner::Cunning, seed))),
+        ("fair", first_failure(8, |seed| fair::trial::<M>((3, 8, 10), Manner::Cunning, seed))),
     ]
 }
 

@@ -67,6 +67,8 @@ struct Twins<M> {
     honesty: u64,
     /// Percentage of those that get a number about the window.
     renumbered: u64,
+    /// The peer takes nothing and no ACK grants more, so that room runs out and PROBEs are sent.
+    stingy: bool,
     sum: Sum,
     buffers: [Vec<u8>; 2],
 }
@@ -80,6 +82,7 @@ pub fn trial<M: Machine>(seed: u64, calls: u64) -> Result<Sum, String> {
     let model = End::open(epoch, interval).map_err(|k| fault(k.0))?;
     let honesty = random.pick(&[20, 60, 90, 100]);
     let renumbered = random.pick(&[0, 50, 90]);
+    let stingy = random.chance(25);
     let mut twins = Twins {
         tried: M::open(epoch, interval).map_err(fault)?,
         peer: model.clone(),
@@ -90,6 +93,7 @@ pub fn trial<M: Machine>(seed: u64, calls: u64) -> Result<Sum, String> {
         honest: Vec::new(),
         honesty,
         renumbered,
+        stingy,
         sum: Sum::default(),
         buffers: [vec![0; RING + 64], vec![0; RING + 64]],
     };
@@ -209,7 +213,7 @@ impl<M: Machine> Twins<M> {
         let mut bytes = vec![0; self.length().min(5_000)];
         self.random.fill(&mut bytes);
         self.peer.give(&bytes);
-        let length = self.length();
+        let length = if self.stingy { 0 } else { self.length() };
         self.peer.take(&mut self.buffers[0][..length]);
         if self.random.chance(1) {
             self.peer.finish();
@@ -284,7 +288,8 @@ impl<M: Machine> Twins<M> {
             Kind::Data => (self.data_position(&state, length as u64), 0),
             Kind::Ack => {
                 let any = self.random.below(1 << 20) as u32;
-                (self.ack_position(&state), self.random.pick(&[0, 1, any, 65_535, 65_536, u32::MAX]))
+                let credit = self.random.pick(&[0, 1, any, 65_535, 65_536, u32::MAX]);
+                (self.ack_position(&state), if self.stingy { 0 } else { credit })
             }
             Kind::Probe => (self.random.bits(), 0),
         };
