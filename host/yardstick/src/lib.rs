@@ -24,6 +24,8 @@ mod receiving;
 mod refusal;
 mod ring;
 mod sending;
+#[cfg(test)]
+mod tests;
 mod window;
 
 pub use header::{HEADER, Header, Kind, PAYLOAD};

@@ -32,6 +32,12 @@ impl Receiving {
         Receiving { taken: 0, low: 0, beyond: Vec::with_capacity(64), end: None, ring: Ring::new() }
     }
 
+    /// As if all bytes below `position` had arrived and been taken.
+    #[cfg(test)]
+    pub fn set_positions(&mut self, position: u64) {
+        (self.taken, self.low) = (position, position);
+    }
+
     pub fn taken(&self) -> u64 {
         self.taken
     }

@@ -57,6 +57,12 @@ impl Sending {
         }
     }
 
+    /// As if all bytes below `position` had been given, sent and acknowledged.
+    #[cfg(test)]
+    pub fn set_positions(&mut self, position: u64) {
+        (self.given, self.acked, self.next, self.limit) = (position, position, position, position + RING as u64);
+    }
+
     pub fn given(&self) -> u64 {
         self.given
     }
