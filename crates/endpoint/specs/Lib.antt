@@ -15,3 +15,4 @@ pub mod OpeningLaws
 pub mod Hearing
 pub mod HearingLaws
 pub mod HeardLaws
+pub mod SmallLaws

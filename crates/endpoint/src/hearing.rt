@@ -8,8 +8,8 @@ ghost use Rattle.wire.specs.Reading.{fieldsOf};
 ghost use Rattle.window.specs.Window.{width};
 ghost use Rattle.endpoint.specs.Layout.{tableWords, sectionsOf, commonOf};
 ghost use Rattle.endpoint.specs.ReadyLaws.{Ready};
-ghost use Rattle.endpoint.specs.Hearing.{placeRow, judgeRow, hearRow, Noted, DataDone, AckDone};
-ghost use Rattle.endpoint.specs.HearingLaws.{Judged, Hearing};
+ghost use Rattle.endpoint.specs.Hearing.{placeRow, judgeRow, hearRow, Noted, DataDone, AckDone, Heard};
+ghost use Rattle.endpoint.specs.HearingLaws.{Judged, Hearing, HearReady};
 use sending::Line;
 use wire::Header;
 use super::table::Common;
@@ -122,4 +122,21 @@ fn ack(t: &mut [u64], h: Header)
     };
     note(t, h.number, c.due);
     save_sends(&mut t[7..15], v);
+}
+
+// An accepted datagram.
+pub fn hear(t: &mut [u64], incoming: &mut [u8], marks: &mut [u8], d: &[u8])
+    requires { ⌜ HearReady (now t) (length (now incoming)) (length (now marks)) (now d) ⌝ }
+    ensures { λ _. ⌜ Heard (now (t .entry)) (now (incoming .entry)) (now (marks .entry)) (now (d .entry)) (fieldsOf (now (d .entry))) (now (t .exit)) (now (incoming .exit)) (now (marks .exit)) ⌝ }
+{
+    let h = wire::fields(d);
+    if h.kind == 1 {
+        data(t, incoming, marks, d, h);
+        return;
+    }
+    if h.kind == 2 {
+        ack(t, h);
+        return;
+    }
+    note(t, h.number, 1);
 }
