@@ -15,4 +15,6 @@ pub mod OpeningLaws
 pub mod Hearing
 pub mod HearingLaws
 pub mod HeardLaws
+pub mod Ticking
+pub mod TickingLaws
 pub mod SmallLaws

@@ -5,6 +5,7 @@ mod opening;
 mod ready;
 mod stream;
 mod table;
+mod ticking;
 
 ghost use Rattle.endpoint.specs.Calls.{Opens, Gives, Finishes, Hears, Takes};
 use answer::refusal;
