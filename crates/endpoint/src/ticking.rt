@@ -9,7 +9,7 @@ ghost use Rattle.sending.specs.Outcome.{datagramMost};
 ghost use Rattle.endpoint.specs.Layout.{tableWords, sectionsOf, commonOf};
 ghost use Rattle.endpoint.specs.Rows.{outputLeast, outputRow};
 ghost use Rattle.endpoint.specs.ReadyLaws.{Ready};
-ghost use Rattle.endpoint.specs.Ticking.{clockBy, allowanceBy, acksBy, AckSent, SegmentsSent, SendReady, Ticked};
+ghost use Rattle.endpoint.specs.Ticking.{clockBy, allowanceBy, acksBy, AckSent, SegmentsSent, SendReady, Planned, AckReady, AckOver, TickReady, Ticked};
 use sending::Sent;
 use sending::Stamp;
 use sending::Tick;
@@ -75,6 +75,29 @@ fn acks(due: u64, allowed: u64) -> u64
     0
 }
 
+// What a tick has to go by.
+pub struct Plan {
+    pub now: u64,
+    pub allowed: u64,
+    pub acks: u64,
+}
+
+fn plan_of(t: &[u64]) -> Plan
+    requires { ⌜ (tableWords ≤ length (now t)) × Ready (sectionsOf (now t)) ⌝ }
+    ensures { λ r. ⌜ Planned (sectionsOf (now (t .entry))) r ⌝ }
+{
+    let c = common_in(t);
+    let s = sends_in(t);
+    let row = s.row;
+    let now = clock_after(c.clock);
+    let allowed = allowance(now, row.next, c.number);
+    Plan {
+        now: now,
+        allowed: allowed,
+        acks: acks(c.due, allowed),
+    }
+}
+
 // The ACK, in all of out.
 fn write_ack(out: &mut [u8], t: &[u64], epoch: u64, number: u64)
     requires { ⌜ (tableWords ≤ length (now t)) × Ready (sectionsOf (now t)) ⌝ }
@@ -121,4 +144,48 @@ fn send_segments(t: &mut [u64], outgoing: &[u8], out: &mut [u8], w: Tick, e: Sta
     };
     save_sends(&mut t[7..15], v);
     r
+}
+
+// Step 1: a ACKs, none or one, at the start of out. Answers the bytes written.
+fn ack_first(out: &mut [u8], t: &[u64], c: Common, a: u64) -> usize
+    requires { ⌜ AckReady (now t) c a (length (now out)) ⌝ }
+    ensures { λ r. ⌜ AckOver (sectionsOf (now (t .entry))) c a (now (out .entry)) r (now (out .exit)) ⌝ }
+{
+    if a == 0 {
+        return 0;
+    }
+    write_ack(&mut out[0..32], t, c.epoch, c.number + 1);
+    32
+}
+
+// All four steps. Answers the bytes written.
+pub fn tick_end(t: &mut [u64], outgoing: &[u8], out: &mut [u8]) -> u64
+    requires { ⌜ TickReady (now t) (length (now outgoing)) (length (now out)) ⌝ }
+    ensures { λ r. ⌜ Ticked (now (t .entry)) (now (outgoing .entry)) (now (out .entry)) r (now (t .exit)) (now (out .exit)) ⌝ }
+{
+    let c = common_in(t);
+    let p = plan_of(t);
+    let from = ack_first(out, t, c, p.acks);
+    let w = Tick {
+        now: p.now,
+        every: c.interval,
+        allowed: p.allowed - p.acks,
+    };
+    let e = Stamp {
+        epoch: c.epoch,
+        number: c.number + p.acks,
+    };
+    let end = out.len();
+    let r = send_segments(t, outgoing, &mut out[from..end], w, e);
+    let n = Common {
+        opened: c.opened,
+        epoch: c.epoch,
+        interval: c.interval,
+        clock: p.now,
+        number: c.number + p.acks + r.count,
+        due: c.due - p.acks,
+        high: c.high,
+    };
+    save_common(&mut t[0..7], n);
+    from as u64 + r.bytes as u64
 }
