@@ -195,7 +195,7 @@ pub ack-within : {s : Sections} {h : Header} → Ready s → Judged s h → h .k
 unfolding placeRow
 ack-within {s} {h} r j k =
     let z = else-eq (ackRefusal (sendsOf (s .sends) .row .next) (h .position)) (receiving.refusal (scalarsOf (s .receives)) (h .position) (h .length) (h .flags)) _ (h .kind) 1 (λ q. omega arith)
-        (then-eq (ackRefusal (sendsOf (s .sends) .row .next) (h .position)) _ 0 (h .kind) 2 k refl) ∙ j .placed in
+    (then-eq (ackRefusal (sendsOf (s .sends) .row .next) (h .position)) _ 0 (h .kind) 2 k refl) ∙ j .placed in
     let p = passed-lt (sendsOf (s .sends) .row .next) (h .position) 7 (omega arith) z in
     omega (arith, r .sends .next, r .sends .given)
 

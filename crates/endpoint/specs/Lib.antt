@@ -17,4 +17,5 @@ pub mod HearingLaws
 pub mod HeardLaws
 pub mod Ticking
 pub mod TickingLaws
+pub mod TickedLaws
 pub mod SmallLaws

@@ -10,10 +10,6 @@ ghost use Rattle.endpoint.specs.Layout.{tableWords, sectionsOf, commonOf
 ghost use Rattle.endpoint.specs.Rows.{outputLeast, outputRow};
 ghost use Rattle.endpoint.specs.ReadyLaws.{Ready};
 ghost use Rattle.endpoint.specs.Ticking.{clockBy, allowanceBy, acksBy, AckSent, SegmentsSent, SendReady, Planned, AckReady, AckOver, TickReady, Ticked};
-use sending::Sent;
-use sending::Stamp;
-use sending::Tick;
-use wire::Header;
 use super::ready::CEILING;
 use super::table::Common;
 use super::table::Sends;
@@ -23,6 +19,10 @@ use super::table::save_common;
 use super::table::save_sends;
 use super::table::scalars_in;
 use super::table::sends_in;
+use sending::Sent;
+use sending::Stamp;
+use sending::Tick;
+use wire::Header;
 
 // At most so many datagrams leave in a tick.
 const DATAGRAMS: u64 = 32;
@@ -129,7 +129,17 @@ fn send_segments(t: &mut [u64], outgoing: &[u8], out: &mut [u8], w: Tick, e: Sta
     let row = s.row;
     let mut times = [0u64; 64];
     copy_words(&mut times, &t[100..164]);
-    let r = sending::send(out, &outgoing[0..65536], &mut t[36..100], &mut times, w, e, line, row, s.probed);
+    let r = sending::send(
+        out,
+        &outgoing[0..65536],
+        &mut t[36..100],
+        &mut times,
+        w,
+        e,
+        line,
+        row,
+        s.probed,
+    );
     copy_words(&mut t[100..164], &times);
     let moved = sending::Row {
         acked: row.acked,

@@ -15,12 +15,12 @@ ack-first-requires : tie.Need-ack-first-requires
 ack-first-requires c κs = ack-ready (c .before .before .before .before .before .before .before .before .before .pre) (c .before .before .before .before .common-in .ensures) (c .before .before .plan-of .ensures)
 
 sub-t20 : tie.Need-sub-t20
-sub-t20 c = 
+sub-t20 c =
     let f = tick-facts (c .before .before .before .before .before .before .before .before .before .before .before .before .before .pre) (c .before .before .before .before .before .before .before .before .common-in .ensures) (c .before .before .before .before .before .before .plan-of .ensures) in
     omega arith
 
 add-t20 : tie.Need-add-t20
-add-t20 c = 
+add-t20 c =
     let f = tick-facts (c .before .before .before .before .before .before .before .before .before .before .before .before .before .before .before .pre) (c .before .before .before .before .before .before .before .before .before .before .common-in .ensures) (c .before .before .before .before .before .before .before .before .plan-of .ensures) in
     omega arith
 
@@ -28,7 +28,7 @@ sub-send-segments : tie.Need-sub-send-segments
 sub-send-segments c = from-most (c .before .before .before .before .before .before .before .before .before .before .before .before .before .before .before .before .pre) (c .before .before .before .before .before .before .before .before .before .before .before .common-in .ensures) (c .before .before .before .before .before .before .before .before .before .plan-of .ensures) refl (c .before .before .before .before .before .before .ack-first .ensures)
 
 part-send-segments-start : tie.Need-part-send-segments-start
-part-send-segments-start c = 
+part-send-segments-start c =
     let h = from-most (c .before .before .before .before .before .before .before .before .before .before .before .before .before .before .before .before .pre) (c .before .before .before .before .before .before .before .before .before .before .before .common-in .ensures) (c .before .before .before .before .before .before .before .before .before .plan-of .ensures) refl (c .before .before .before .before .before .before .ack-first .ensures) in
     search needs
 
@@ -39,17 +39,17 @@ send-segments-requires : tie.Need-send-segments-requires
 send-segments-requires c κs = send-ready (c .before .before .before .before .before .before .before .before .before .before .before .before .before .before .before .before .before .pre) (c .before .before .before .before .before .before .before .before .before .before .before .before .common-in .ensures) (c .before .before .before .before .before .before .before .before .before .before .plan-of .ensures) refl (c .before .before .before .before .before .before .before .ack-first .ensures)
 
 add-t20-2 : tie.Need-add-t20-2
-add-t20-2 c = 
+add-t20-2 c =
     let f = tick-facts (c .before .before .before .before .before .before .before .before .before .before .before .before .before .before .before .before .before .before .before .before .before .before .before .before .pre) (c .before .before .before .before .before .before .before .before .before .before .before .before .before .before .before .before .before .before .before .common-in .ensures) (c .before .before .before .before .before .before .before .before .before .before .before .before .before .before .before .before .before .plan-of .ensures) in
     omega arith
 
 add-t27 : tie.Need-add-t27
-add-t27 c = 
+add-t27 c =
     let f = tick-facts (c .before .before .before .before .before .before .before .before .before .before .before .before .before .before .before .before .before .before .before .before .before .before .before .before .before .pre) (c .before .before .before .before .before .before .before .before .before .before .before .before .before .before .before .before .before .before .before .before .common-in .ensures) (c .before .before .before .before .before .before .before .before .before .before .before .before .before .before .before .before .before .before .plan-of .ensures) in
     omega (arith, f .numbers, f .allowed, sent-few (c .before .before .before .before .before .before .before .send-segments .ensures))
 
 sub-result : tie.Need-sub-result
-sub-result c = 
+sub-result c =
     let f = tick-facts (c .before .before .before .before .before .before .before .before .before .before .before .before .before .before .before .before .before .before .before .before .before .before .before .before .before .before .before .pre) (c .before .before .before .before .before .before .before .before .before .before .before .before .before .before .before .before .before .before .before .before .before .before .common-in .ensures) (c .before .before .before .before .before .before .before .before .before .before .before .before .before .before .before .before .before .before .before .before .plan-of .ensures) in
     omega arith
 
@@ -60,7 +60,7 @@ part-save-common-start : tie.Need-part-save-common-start
 part-save-common-start c = search needs
 
 part-save-common-end : tie.Need-part-save-common-end
-part-save-common-end c = 
+part-save-common-end c =
     let h = sent-size (c .before .before .before .before .before .before .before .before .before .send-segments .ensures) in
     let g = c .before .before .before .before .before .before .before .before .before .before .before .before .before .before .before .before .before .before .before .before .before .before .before .before .before .before .before .pre .table-size in
     search needs
@@ -69,13 +69,13 @@ save-common-requires : tie.Need-save-common-requires
 save-common-requires c κs = search needs
 
 add-result : tie.Need-add-result
-add-result c = 
+add-result c =
     let f = tick-facts (c .before .before .before .before .before .before .before .before .before .before .before .before .before .before .before .before .before .before .before .before .before .before .before .before .before .before .before .before .before .before .before .pre) (c .before .before .before .before .before .before .before .before .before .before .before .before .before .before .before .before .before .before .before .before .before .before .before .before .before .before .common-in .ensures) (c .before .before .before .before .before .before .before .before .before .before .before .before .before .before .before .before .before .before .before .before .before .before .before .before .plan-of .ensures) in
     let h = c .before .before .before .before .before .before .before .before .before .before .before .before .before .send-segments .ensures in
     omega (arith, bytes-most _ _ _ _ _ (c .before .before .before .before .before .before .before .before .before .before .before .before .before .before .before .before .before .before .before .before .before .ack-first .ensures .few) (f .one) (f .allowed) (f .most) (sent-few h) (sent-small h))
 
 done : tie.Need-returns
-done c = 
+done c =
     let a = c .before .before .before .before .before .before .before .before .before .before .before .before .before .before .before .before .before .before .before .before .before .before .before .before .before .before .before .before .before .before .before in
     ticked (a .args .t .now) (a .args .outgoing .now) (a .args .out .now) (a .pre) (c .before .before .before .before .before .before .before .before .before .before .before .before .before .before .before .before .before .before .before .before .before .before .before .before .before .before .common-in .ensures) (c .before .before .before .before .before .before .before .before .before .before .before .before .before .before .before .before .before .before .before .before .before .before .before .before .plan-of .ensures) (c .before .before .before .before .before .before .before .before .before .before .before .before .before .before .before .before .before .before .before .before .before .ack-first .ensures) (c .before .before .before .before .before .before .before .before .before .before .before .before .before .send-segments .ensures) (c .before .before .save-common .ensures)
 
