@@ -99,7 +99,8 @@ fn data(t: &mut [u64], incoming: &mut [u8], marks: &mut [u8], d: &[u8], h: Heade
         &d[32..],
         h.flags,
     );
-    note(t, h.number, 1);
+    let number = h.number;
+    note(t, number, 1);
     save_scalars(&mut t[15..20], v);
 }
 
