@@ -2,9 +2,6 @@
 pub mod World
 pub mod Rounds
 pub mod Delivered
-pub mod TmpSending
-pub mod TmpReceiving
-pub mod TmpEnd
 pub mod Truth
 pub mod FlowLaws
 pub mod RunLaws

@@ -7,6 +7,7 @@ use native.Mathlib.Omega.{arith}
 use lib.Dec.{eqb, ltb}
 use lib.ListN.{length, length-append}
 use borrow.Author.Tests.{eqb-true, ltb-true}
+use lib.IntN.{ℤ, pos, negsuc}
 use Rattle.laws.specs.Choice.{if-case}
 use Rattle.laws.specs.Rows.{when, _orElse_}
 use Rattle.laws.specs.RowsLaws.{row-left, row-right, passed-ne, miss-ne}
@@ -25,7 +26,8 @@ use Rattle.sending.specs.Steps.{sendOf}
 use Rattle.sending.specs.StepLaws.{and-left, and-right}
 use Rattle.sending.specs.CallLaws.{ack-sent, honest-ack}
 use Rattle.sending.specs.TickLaws.{send-few}
 use Rattle.endpoint.specs.End.{End, openOf, giveOf, givenOf, finishOf, gotOf, takeOf, reachedOf, placeOf, refusalOf, acceptedOf, answerTo, acceptIf, afterHearing, hearAnswer, hearOf, clockOf, allowanceOf, ackOf, stepOf, sentOf, tickOf}
+use Rattle.endpoint.specs.Answer.{answerOf}
 
 -- OPEN
 pub record Opened (e : End) (epoch interval : ℕ) : Type 0 where
@@ -209,3 +211,13 @@ tick-is e =
       number = refl;
       small = λ h. let k = allowance-few e h in rw length-append (omega (arith, a .few));
     }
+
+-- ANSWERS: a value is not below 0, a refusal is
+pub value-is : (n : ℕ) → answerOf 0 n ≡ pos n
+unfolding answerOf
+value-is n = refl
+
+pub refusal-is : (r n : ℕ) → (r ≡ 0 → ⊥) → answerOf r n ≡ negsuc (r - 1)
+unfolding answerOf
+refusal-is zero n h = absurd (h refl)
+refusal-is (suc r) n h = let e : suc r - 1 ≡ r = omega arith in rw e
