@@ -6,3 +6,8 @@ pub mod Truth
 pub mod FlowLaws
 pub mod RunLaws
 pub mod Statement
+pub mod Series
+pub mod SeriesLaws
+pub mod TmpEnd
+pub mod Code
+pub mod CodeLaws
