@@ -11,3 +11,4 @@ pub mod SeriesLaws
 pub mod TmpEnd
 pub mod Code
 pub mod CodeLaws
+pub mod Samples
