@@ -11,7 +11,7 @@ use lib.IntN.{ℤ, pos, negsuc}
 use Rattle.laws.specs.Choice.{if-case}
 use Rattle.laws.specs.Rows.{when, _orElse_}
 use Rattle.laws.specs.RowsLaws.{row-left, row-right, passed-ne, miss-ne}
-use Rattle.wire.specs.Datagram.{ceiling, Message, DATA, ACK, PROBE}
+use Rattle.wire.specs.Datagram.{ceiling, Message, DATA, ACK, PROBE, wire}
 use Rattle.wire.specs.Reading.{Decoded, refused, read, formOf, decodeAs, decode}
 use Rattle.window.specs.Window.{Window, verdictOf, acceptOf}
 use Rattle.window.specs.Window as window
@@ -26,7 +26,7 @@ use Rattle.sending.specs.Steps.{sendOf}
 use Rattle.sending.specs.StepLaws.{and-left, and-right}
 use Rattle.sending.specs.CallLaws.{ack-sent, honest-ack}
 use Rattle.sending.specs.TickLaws.{send-few}
-use Rattle.endpoint.specs.End.{End, openOf, giveOf, givenOf, finishOf, gotOf, takeOf, reachedOf, placeOf, refusalOf, acceptedOf, answerTo, acceptIf, afterHearing, hearAnswer, hearOf, clockOf, allowanceOf, ackOf, stepOf, sentOf, tickOf}
+use Rattle.endpoint.specs.End.{End, openOf, giveOf, givenOf, finishOf, gotOf, takeOf, reachedOf, placeOf, refusalOf, acceptedOf, answerTo, acceptIf, afterHearing, hearAnswer, hearOf, clockOf, allowanceOf, ackOf, stepOf, sentOf, tickOf, outputOf}
 use Rattle.endpoint.specs.Answer.{answerOf}
 
 -- OPEN
@@ -211,6 +211,11 @@ tick-is e =
       number = refl;
       small = λ h. let k = allowance-few e h in rw length-append (omega (arith, a .few));
     }
+
+-- and its bytes
+pub output-is : (e : End) → outputOf e ≡ wire (e .epoch) (e .number) (sentOf e)
+unfolding outputOf
+output-is e = refl
 
 -- ANSWERS: a value is not below 0, a refusal is
 pub value-is : (n : ℕ) → answerOf 0 n ≡ pos n

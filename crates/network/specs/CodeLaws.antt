@@ -14,23 +14,22 @@ use Rattle.laws.specs.Over.{over}
 use Rattle.ring.specs.Ring.{capacity}
 use Rattle.wire.specs.Datagram.{Message, encode, wire}
 use Rattle.wire.specs.Reading.{Decoded, refused, read, decode}
-use Rattle.network.specs.Series.{Series, nothing}
-use Rattle.network.specs.SeriesLaws.{series-only, series-last, wire-none, wire-next, read-whole}
+use Rattle.wire.specs.Series.{Series, nothing}
+use Rattle.wire.specs.SeriesLaws.{series-only, series-last, wire-none, wire-next, read-whole}
 use Rattle.sending.specs.CallLaws.{In, here, there}
 use Rattle.endpoint.specs.End.{End, openOf, giveOf, givenOf, finishOf, gotOf, takeOf, reachedOf, hearAnswer, hearOf, clockOf, sentOf, tickOf, outputOf}
 use Rattle.endpoint.specs.Layout.{Sound, endOf}
 use Rattle.endpoint.specs.Rows.{readyOf}
 use Rattle.endpoint.specs.Answer.{answerOf}
 use Rattle.endpoint.specs.Calls.{Opens, openRow, Gives, Finishes, Hears, Takes, tickRow, Ticks}
-use Rattle.endpoint.specs.EndLaws.{refuses, takes as accepts, hears as hears-end, value-is, refusal-is}
+use Rattle.endpoint.specs.EndLaws.{refuses, takes as accepts, hears as hears-end, output-is, value-is, refusal-is}
 use Rattle.endpoint.specs.EndLaws as end
 use Rattle.network.specs.World.{Entry, Site, World, opened, handed, stray, gives, finishes, takes, Act, arrives, calls, ticks, noted, hear, bytesOf, handOver, strange, arrive, call, leaving, tick, act, Choice, near-acts, far-acts, step, run}
 use Rattle.network.specs.Delivered.{numbersOf, isAck, asks, acksIn, asksIn, Every, nil, cons, Welcome, Delivered}
-use Rattle.network.specs.TmpEnd.{output-is}
 use Rattle.network.specs.Truth.{Numbered, Forth, Back, position, grant, sink, Pair}
 use Rattle.network.specs.RunLaws.{swap, entry-read, act-pair, run-pair}
 use Rattle.network.specs.Statement.{delivered-is-true}
-use Rattle.network.specs.Code.{Lent, Desk, held, countOf, after, Handed, own, other, Does, Begins, opens, CodeRun, begin, near, far, numberIn, ackIn, askIn, numbersAmong, acksAmong, asksAmong, CodeDelivered, CodeBothWays}
+use Rattle.network.specs.Code.{Lent, Desk, held, countOf, after, afterGive, afterFinish, afterHear, afterTake, afterTick, Handed, own, other, Does, Begins, opens, CodeRun, begin, near, far, numberIn, ackIn, askIn, numbersAmong, acksAmong, asksAmong, CodeDelivered, CodeBothWays}
 use Rattle.network.specs.Code.Does.{gives as gave, finishes as finished, hears as heard, takes as took, ticks as ticked}
 
 -- ANSWERS
@@ -85,15 +84,7 @@ record Follow (epoch : ℕ) (x : Desk) (s u : Site) : Type 0 where
 
 -- GIVE
 follow-give : {epoch : ℕ} {x : Desk} {s : Site} (u : Site) {bs : List ℕ} {r : ℤ} {t' o' : List ℕ} → Matches epoch x s → Gives (x .lent .table) (x .lent .outgoing) bs r t' o'
-    → Follow epoch (record {
-      lent = record { table = t'; outgoing = o'; incoming = x .lent .incoming; marks = x .lent .marks };
-      given = x .given ++ take (countOf r) bs;
-      finished = x .finished;
-      taken = x .taken;
-      reported = x .reported;
-      sent = x .sent;
-      accepted = x .accepted;
-    }) s u
+    → Follow epoch (afterGive x bs r t' o') s u
 unfolding act call
 follow-give {x = x} {s} u {bs} {r} {t'} {o'} v k = elim (ℕ-discrete (readyOf (x .lent .table) (length (x .lent .outgoing)) capacity) 0) [
   | yes z ↦
@@ -132,15 +123,7 @@ follow-give {x = x} {s} u {bs} {r} {t'} {o'} v k = elim (ℕ-discrete (readyOf (
 
 -- FINISH
 follow-finish : {epoch : ℕ} {x : Desk} {s : Site} (u : Site) {r : ℤ} {t' : List ℕ} → Matches epoch x s → Finishes (x .lent .table) r t'
-    → Follow epoch (record {
-      lent = record { table = t'; outgoing = x .lent .outgoing; incoming = x .lent .incoming; marks = x .lent .marks };
-      given = x .given;
-      finished = after r (x .finished) 1;
-      taken = x .taken;
-      reported = x .reported;
-      sent = x .sent;
-      accepted = x .accepted;
-    }) s u
+    → Follow epoch (afterFinish x r t') s u
 unfolding act call
 follow-finish {x = x} {s} u {r} {t'} v k = elim (ℕ-discrete (readyOf (x .lent .table) capacity capacity) 0) [
   | yes z ↦
@@ -183,15 +166,7 @@ unfolding over
 over-first xs out = take-append-seam xs _
 
 follow-take : {epoch : ℕ} {x : Desk} {s : Site} (u : Site) {d : List ℕ} {e : ℕ} {r : ℤ} {t' d' : List ℕ} {e' : ℕ} → Matches epoch x s → Takes (x .lent .table) (x .lent .incoming) d e r t' d' e'
-    → Follow epoch (record {
-      lent = record { table = t'; outgoing = x .lent .outgoing; incoming = x .lent .incoming; marks = x .lent .marks };
-      given = x .given;
-      finished = x .finished;
-      taken = x .taken ++ take (countOf r) d';
-      reported = after r (x .reported) (if (eqb e' 1) 1 (x .reported));
-      sent = x .sent;
-      accepted = x .accepted;
-    }) s u
+    → Follow epoch (afterTake x r t' d' e') s u
 unfolding act call
 follow-take {x = x} {s} u {d} {e} {r} {t'} {d'} {e'} v k = elim (ℕ-discrete (readyOf (x .lent .table) (length (x .lent .incoming)) capacity) 0) [
   | yes z ↦
@@ -238,15 +213,7 @@ noted-match d {ds} clock (accepts z a) q p m = rw (after-value 0 ds (d ∷ ds) p
 
 heard-match : {epoch : ℕ} {x : Desk} {s : Site} {d : List ℕ} {r : ℤ} {t' i' m' : List ℕ} → Matches epoch x s → Hears (x .lent .table) (x .lent .incoming) (x .lent .marks) d r t' i' m'
     → readyOf (x .lent .table) (length (x .lent .incoming)) (length (x .lent .marks)) ≡ 0
-    → Matches epoch (record {
-      lent = record { table = t'; outgoing = x .lent .outgoing; incoming = i'; marks = m' };
-      given = x .given;
-      finished = x .finished;
-      taken = x .taken;
-      reported = x .reported;
-      sent = x .sent;
-      accepted = after r (x .accepted) (d ∷ x .accepted);
-    }) (hear s d)
+    → Matches epoch (afterHear x d r t' i' m') (hear s d)
 unfolding hear
 heard-match {x = x} {s} {d} v k z =
     let g = k .done z (x .lent .outgoing) (v .sound) in
@@ -287,15 +254,7 @@ brings {epoch} {y} {s} {u} {d} w e (other t) =
 
 follow-hear : {epoch : ℕ} {x y : Desk} {s u : Site} {d : List ℕ} {r : ℤ} {t' i' m' : List ℕ} → Matches epoch x s → Matches epoch y u → u .end .epoch ≡ epoch → Handed epoch (y .sent) d
     → Hears (x .lent .table) (x .lent .incoming) (x .lent .marks) d r t' i' m'
-    → Follow epoch (record {
-      lent = record { table = t'; outgoing = x .lent .outgoing; incoming = i'; marks = m' };
-      given = x .given;
-      finished = x .finished;
-      taken = x .taken;
-      reported = x .reported;
-      sent = x .sent;
-      accepted = after r (x .accepted) (d ∷ x .accepted);
-    }) s u
+    → Follow epoch (afterHear x d r t' i' m') s u
 follow-hear {epoch} {x} {y} {s} {u} {d} {r} v w e h k = elim (ℕ-discrete (readyOf (x .lent .table) (length (x .lent .incoming)) (length (x .lent .marks))) 0) [
   | yes z ↦
       let b = brings {s = s} w e h in
@@ -358,15 +317,7 @@ tick-sent {epoch} {s} {u} e v w a =
 follow-tick : {epoch : ℕ} {x : Desk} {s u : Site} {out : List ℕ} {r : ℤ} {t' out' : List ℕ} {ds : List (List ℕ)} → epoch < 2 ^ 64 → Pair epoch s u → Matches epoch x s
     → Ticks (x .lent .table) (x .lent .outgoing) out r t' out'
     → Series (take (countOf r) out') ds
-    → Follow epoch (record {
-      lent = record { table = t'; outgoing = x .lent .outgoing; incoming = x .lent .incoming; marks = x .lent .marks };
-      given = x .given;
-      finished = x .finished;
-      taken = x .taken;
-      reported = x .reported;
-      sent = ds ++ x .sent;
-      accepted = x .accepted;
-    }) s u
+    → Follow epoch (afterTick x ds t') s u
 unfolding act tick
 follow-tick {epoch} {x} {s} {u} {out} {r} {t'} {out'} {ds} e w v k a = elim (ℕ-discrete (tickRow (x .lent .table) (length (x .lent .outgoing)) (length out)) 0) [
   | yes z ↦
