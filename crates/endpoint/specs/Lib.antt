@@ -14,6 +14,7 @@ pub mod Opening
 pub mod OpeningLaws
 pub mod Hearing
 pub mod HearingLaws
+pub mod EndLaws
 pub mod HeardLaws
 pub mod Ticking
 pub mod TickingLaws
