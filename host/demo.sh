@@ -21,7 +21,7 @@ trap 'exit 1' INT TERM
 # tools/hosts sets these where x86-64 programs need an emulator.
 emulator=${SLUICE_EMULATOR:-}
 (cd "$here" && cargo build --release --offline --quiet --package drill)
-sluice=$here/target/${CARGO_BUILD_TARGET:-}/release/sluice
+sluice=${CARGO_TARGET_DIR:-$here/target}/${CARGO_BUILD_TARGET:-}/release/sluice
 
 # Addresses of this process's own, so that two demos do not meet.
 port=$((20000 + $$ % 20000))
