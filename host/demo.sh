@@ -1,6 +1,6 @@
 #!/bin/sh
 # Sends a file through pipe -> relay -> pipe on loopback, with loss, repeats, delay and swaps, and compares the bytes.
-# usage: host/demo.sh [MEGABYTES]   (called by `make demo`)
+# usage: tools/hosts host/demo.sh [MEGABYTES]   (called by `make demo`)
 set -eu
 
 here=$(cd "$(dirname "$0")" && pwd)
@@ -18,13 +18,10 @@ clean_up() {
 trap clean_up EXIT
 trap 'exit 1' INT TERM
 
-archive=${SLUICESTREAM_LIB_DIR:-$here/../target/staticlib}/libendpoint.a
-if [ ! -f "$archive" ]; then
-    echo "demo: proving the end and building its static library (rt staticlib endpoint)"
-    (cd "$here/.." && rt staticlib endpoint)
-fi
+# tools/hosts sets these where x86-64 programs need an emulator.
+emulator=${SLUICE_EMULATOR:-}
 (cd "$here" && cargo build --release --offline --quiet --package drill)
-sluice=$here/target/release/sluice
+sluice=${CARGO_TARGET_DIR:-$here/target}/${CARGO_BUILD_TARGET:-}/release/sluice
 
 # Addresses of this process's own, so that two demos do not meet.
 port=$((20000 + $$ % 20000))
@@ -39,16 +36,16 @@ seq 1 20000 >"$folder/answer"
 echo "demo: $megabytes MB from the control room to the gate, $(wc -c <"$folder/answer") bytes back, over UDP on loopback"
 echo "demo: the relay between them loses 5%, repeats 3%, delays by 1 to 4 ms and swaps 5% of the datagrams"
 
-"$sluice" relay --listen "$relay" --to "$gate" --lose 5 --repeat 3 --delay 1-4 --swap 5 --seed "$epoch" --idle 1 \
+${emulator:+"$emulator"} "$sluice" relay --listen "$relay" --to "$gate" --lose 5 --repeat 3 --delay 1-4 --swap 5 --seed "$epoch" --idle 1 \
     2>"$folder/relay.log" &
 relay_job=$!
-"$sluice" pipe --bind "$gate" --peer "$relay" --epoch "$epoch" --interval 20 --summary \
+${emulator:+"$emulator"} "$sluice" pipe --bind "$gate" --peer "$relay" --epoch "$epoch" --interval 20 --summary \
     <"$folder/answer" >"$folder/taken" 2>"$folder/gate.log" &
 gate_job=$!
 jobs="$relay_job $gate_job"
 
 room_status=0
-"$sluice" pipe --bind "$room" --peer "$relay" --epoch "$epoch" --interval 20 --summary \
+${emulator:+"$emulator"} "$sluice" pipe --bind "$room" --peer "$relay" --epoch "$epoch" --interval 20 --summary \
     <"$folder/given" >"$folder/answered" 2>"$folder/room.log" || room_status=$?
 gate_status=0
 wait "$gate_job" || gate_status=$?

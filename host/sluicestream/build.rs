@@ -16,7 +16,12 @@ fn link(repository: &Path) {
     println!("cargo::rerun-if-env-changed=SLUICESTREAM_LIB_DIR");
     let folder = match env::var_os("SLUICESTREAM_LIB_DIR") {
         Some(folder) => PathBuf::from(folder),
-        None => repository.join("target/staticlib"),
+        None => {
+            if env::var("CARGO_CFG_TARGET_ARCH").as_deref() != Ok("x86_64") {
+                stop("the proved end is x86-64 code: on any other machine start cargo by `tools/hosts cargo ..`");
+            }
+            repository.join("target/staticlib")
+        }
     };
     let archive = folder.join("libendpoint.a");
     println!("cargo::rerun-if-changed={}", archive.display());

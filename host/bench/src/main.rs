@@ -1,5 +1,5 @@
 //! Ten million bytes in segments of 1,024 through two ends in one process, with a network that loses every 50th
-//! datagram: the proved end beside the yardstick. `cargo run --release -p bench [ROUNDS]`.
+//! datagram: the proved end beside the yardstick. `make bench`, or `cargo run --release -p bench [ROUNDS]`.
 
 #![forbid(unsafe_code)]
 
@@ -71,7 +71,7 @@ fn transfer<M: Machine>(text: &[u8], room: &mut [u8], parts: bool) -> Result<Tim
         let sent = timed(parts.then_some(&mut times.tick), || from.tick());
         for datagram in sent {
             times.datagrams += 1;
-            if !times.datagrams.is_multiple_of(LOSES) {
+            if times.datagrams % LOSES != 0 {
                 let _ = timed(parts.then_some(&mut times.datagram), || to.datagram(datagram));
             }
         }
@@ -80,7 +80,7 @@ fn transfer<M: Machine>(text: &[u8], room: &mut [u8], parts: bool) -> Result<Tim
         ended = end;
         for datagram in timed(parts.then_some(&mut times.tick), || to.tick()) {
             times.datagrams += 1;
-            if !times.datagrams.is_multiple_of(LOSES) {
+            if times.datagrams % LOSES != 0 {
                 let _ = timed(parts.then_some(&mut times.datagram), || from.datagram(datagram));
             }
         }
@@ -102,10 +102,11 @@ fn round<M: Machine>(best: &mut Option<Times>, text: &[u8], room: &mut [u8]) -> 
     Ok(())
 }
 
-fn compare(rounds: usize) -> Result<(), String> {
-    let mut text = vec![0; BYTES];
+/// The fastest of all rounds on both machines, the proved end first; an error where they differ in more than time.
+fn compare(bytes: usize, rounds: usize) -> Result<[Times; 2], String> {
+    let mut text = vec![0; bytes];
     Random::new(1).fill(&mut text);
-    let mut room = vec![0; BYTES];
+    let mut room = vec![0; bytes];
     let (mut proved, mut yardstick) = (None, None);
     for _ in 0..rounds {
         round::<sluicestream::End>(&mut proved, &text, &mut room)?;
@@ -115,6 +116,11 @@ fn compare(rounds: usize) -> Result<(), String> {
     if (proved.datagrams, proved.ticks) != (yardstick.datagrams, yardstick.ticks) {
         return Err("the machines did not send the same".into());
     }
+    Ok([proved, yardstick])
+}
+
+/// Prints both machines side by side; the last line is the ratio of the whole.
+fn print([proved, yardstick]: [Times; 2], rounds: usize) {
     println!("{BYTES} bytes, every {LOSES}th datagram lost: {} datagrams, {} ticks", proved.datagrams, proved.ticks);
     println!("fastest of {rounds} rounds      sluicestream     yardstick   ratio");
     type Part = (&'static str, fn(&Times) -> Duration);
@@ -129,7 +135,7 @@ fn compare(rounds: usize) -> Result<(), String> {
         let (ours, theirs) = (part(&proved).as_secs_f64() * 1e3, part(&yardstick).as_secs_f64() * 1e3);
         println!("{name:<22}{ours:>12.3} ms{theirs:>11.3} ms{:>8.2}", ours / theirs);
     }
-    Ok(())
+    println!("ratio: {:.2} (rattle / rust)", proved.whole.as_secs_f64() / yardstick.whole.as_secs_f64());
 }
 
 fn main() -> ExitCode {
@@ -138,11 +144,24 @@ fn main() -> ExitCode {
         eprintln!("usage: bench [ROUNDS]");
         return ExitCode::from(2);
     };
-    match compare(rounds) {
-        Ok(()) => ExitCode::SUCCESS,
+    match compare(BYTES, rounds) {
+        Ok(times) => {
+            print(times, rounds);
+            ExitCode::SUCCESS
+        }
         Err(why) => {
             eprintln!("bench: {why}");
             ExitCode::FAILURE
         }
+    }
+}
+
+#[cfg(test)]
+mod tests {
+    #[test]
+    fn both_machines_deliver_the_same() {
+        println!("checks: a small run of the bench delivers every byte on both machines, with the same datagrams");
+        let [proved, _] = super::compare(300_000, 1).expect("the machines differ in nothing but time");
+        println!("{} datagrams, {} ticks", proved.datagrams, proved.ticks);
     }
 }

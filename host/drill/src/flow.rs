@@ -202,9 +202,7 @@ impl Flow {
             self.limit = limit;
         }
         let before = self.dropped;
-        while let Some(segment) = self.segments.get(self.dropped)
-            && segment.to <= self.acked
-        {
+        while let Some(segment) = self.segments.get(self.dropped).filter(|segment| segment.to <= self.acked) {
             let ticks = now - segment.oldest.unwrap_or(now);
             self.worst.acknowledged = self.worst.acknowledged.max(ticks);
             self.dropped += 1;
@@ -244,9 +242,8 @@ impl Flow {
 
     /// Whether, after the network's turn in tick `now`, what the bounds promise has come true.
     pub fn in_time(&mut self, now: u64, bounds: Bounds) -> Result<(), String> {
-        if let Some(segment) = self.segments.get(self.dropped)
-            && let Some(oldest) = segment.oldest
-        {
+        let kept = self.segments.get(self.dropped);
+        if let Some((segment, oldest)) = kept.and_then(|segment| Some((segment, segment.oldest?))) {
             let ticks = now - oldest;
             if ticks >= bounds.acknowledged || (ticks >= bounds.hand && !segment.arrived) {
                 let what = if segment.arrived { "not acknowledged" } else { "not in hand" };

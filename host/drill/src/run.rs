@@ -259,7 +259,7 @@ impl<M: Machine + Clone, N: Network> Run<M, N> {
         match pace {
             Pace::All => most,
             Pace::Some(percent, bytes) if self.random.chance(percent) => self.random.between(0, bytes).min(most),
-            Pace::Every(ticks, bytes) if self.now.is_multiple_of(ticks) => bytes.min(most),
+            Pace::Every(ticks, bytes) if self.now % ticks == 0 => bytes.min(most),
             Pace::Some(..) | Pace::Every(..) => 0,
         }
     }

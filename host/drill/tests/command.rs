@@ -1,14 +1,23 @@
 //! The `sluice` command: help, clear lines where something is wrong, and a connection over UDP on loopback.
 
-use std::io::Write;
+use std::io::{Read, Write};
 use std::net::UdpSocket;
 use std::process::{Child, Command, Output, Stdio};
 use std::thread;
 
 use drill::stream::Stream;
 
+/// The command; where cargo runs this test under an emulator, its children need that too.
 fn sluice(arguments: &[&str]) -> Command {
-    let mut command = Command::new(env!("CARGO_BIN_EXE_sluice"));
+    let sluice = env!("CARGO_BIN_EXE_sluice");
+    let mut command = match std::env::var("SLUICE_EMULATOR") {
+        Ok(emulator) if !emulator.is_empty() => {
+            let mut command = Command::new(emulator);
+            command.arg(sluice);
+            command
+        }
+        _ => Command::new(sluice),
+    };
     command.args(arguments).stdin(Stdio::null()).stdout(Stdio::piped()).stderr(Stdio::piped());
     command
 }
@@ -113,14 +122,25 @@ fn pipe(bind: &str, peer: &str, input: Vec<u8>) -> Child {
     child
 }
 
+/// A process that does not outlive its test, however that ends.
+struct Running(Child);
+
+impl Drop for Running {
+    fn drop(&mut self) {
+        let _ = self.0.kill();
+        let _ = self.0.wait();
+    }
+}
+
 #[test]
 fn both_ways_through_a_bad_relay() {
     println!("checks: bytes go both ways through pipe, relay and pipe, with loss, repeats, delay and swaps");
     let [one, middle, other] = [free(), free(), free()];
     let mut texts = [vec![0; 300_000], vec![0; 50_001]];
     texts.iter_mut().zip(1..).for_each(|(text, seed)| Stream::new(seed).fill(0, text));
-    let bad = ["--lose", "10", "--repeat", "5", "--delay", "3", "--swap", "5", "--seed", "5", "--idle", "1"];
-    let relay = sluice(&[&["relay", "--listen", &middle, "--to", &other], &bad[..]].concat()).spawn().expect("runs");
+    let bad = ["--lose", "10", "--repeat", "5", "--delay", "3", "--swap", "5", "--seed", "5", "--idle", "2"];
+    let relay = sluice(&[&["relay", "--listen", &middle, "--to", &other], &bad[..]].concat()).spawn();
+    let mut relay = Running(relay.expect("sluice runs"));
     let ends = [pipe(&one, &middle, texts[0].clone()), pipe(&other, &middle, texts[1].clone())];
     // Both are read at once: a pipe whose output nobody reads grants no more credit, and the other one waits.
     let readers = ends.map(|end| thread::spawn(move || end.wait_with_output()));
@@ -131,7 +151,9 @@ fn both_ways_through_a_bad_relay() {
         assert!(output.status.success(), "{name}: {stderr}");
         assert!(output.stdout == *text, "{name}: {} bytes came out", output.stdout.len());
     }
-    let relay = relay.wait_with_output().expect("the relay ends");
-    println!("relay: {}", String::from_utf8_lossy(&relay.stderr).trim());
-    assert!(relay.status.success());
+    let status = relay.0.wait().expect("the relay ends");
+    let mut told = String::new();
+    relay.0.stderr.take().expect("piped").read_to_string(&mut told).expect("text");
+    println!("relay: {}", told.trim());
+    assert!(status.success(), "relay: {told}");
 }

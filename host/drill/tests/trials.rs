@@ -1,11 +1,11 @@
 //! The short form of every trial, on the proved end. The long form: `sluice drill --long`.
 
-use drill::trials::{Seeds, TRIALS, run};
+use drill::trials::{self, Seeds, TRIALS};
 
 /// Runs a trial by name and prints its report; a failure names the seed and how to repeat it.
 fn short_form(name: &str) {
     let trial = TRIALS.iter().find(|trial| trial.name == name).expect("a trial of this name");
-    match run(trial, Seeds::new(trial.seeds)) {
+    match trials::run(trial, Seeds::new(trials::short_form(trial.seeds))) {
         Ok(report) => println!("{report}"),
         Err(why) => panic!("{why}"),
     }

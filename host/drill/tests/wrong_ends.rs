@@ -2,12 +2,13 @@
 
 use drill::machine::Machine;
 use drill::network::Manner;
-use drill::trials::{fair, twins, wild};
+use drill::trials::{fair, short_form, twins, wild};
 use yardstick::{EndWith, fault};
 
 /// The first failure of a trial over some seeds.
 fn first_failure<T>(seeds: u64, mut trial: impl FnMut(u64) -> Result<T, String>) -> Option<String> {
-    (1..=seeds).find_map(|seed| trial(seed).err().map(|why| format!("seed {seed}: {}", why.lines().next().unwrap())))
+    (1..=short_form(seeds))
+        .find_map(|seed| trial(seed).err().map(|why| format!("seed {seed}: {}", why.lines().next().unwrap())))
 }
 
 /// What each kind of trial says of a machine.

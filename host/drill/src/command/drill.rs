@@ -68,7 +68,7 @@ fn try_out(mut options: Options, long: bool, name: Option<String>) -> Result<(),
         return Err(Stop::Usage(format!("--trial {name}: one of {}", names.join(", "))));
     }
     for trial in TRIALS.iter().filter(|trial| name.as_ref().is_none_or(|name| trial.name == name)) {
-        let usual = if long { LONG * trial.seeds } else { trial.seeds };
+        let usual = if long { LONG * trial.seeds } else { trials::short_form(trial.seeds) };
         let count = count.unwrap_or(if seed.is_some() { 1 } else { usual });
         let report = trials::run(trial, Seeds { first: seed.unwrap_or(1), count }).map_err(Stop::Failed)?;
         say(&format!("{report}\n"));

@@ -177,11 +177,8 @@ impl Pipe {
         }
         self.quiet = 0;
         self.unanswered = None;
-        if let Ok(header) = Header::read(datagram)
-            && header.kind == Kind::Ack
-        {
-            self.acknowledged |= self.finished && header.position == self.seen.given + 1;
-        }
+        let ack = Header::read(datagram).ok().filter(|header| header.kind == Kind::Ack);
+        self.acknowledged |= self.finished && ack.is_some_and(|ack| ack.position == self.seen.given + 1);
     }
 
     /// Gives what was read from standard input, as far as there is room.

@@ -93,9 +93,8 @@ impl Relay {
         loop {
             self.hand_over();
             let now = Instant::now();
-            if let (Some(last), Some(idle)) = (last, self.settings.idle)
-                && now.duration_since(last) > idle
-            {
+            let quiet = last.map(|last| now.duration_since(last));
+            if quiet.zip(self.settings.idle).is_some_and(|(quiet, idle)| quiet > idle) {
                 return self.tell();
             }
             let until = self.waiting.peek().map_or(now + Duration::from_millis(100), |next| next.0.0);

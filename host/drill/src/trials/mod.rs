@@ -45,6 +45,15 @@ impl Seeds {
     }
 }
 
+/// Seeds of a short form: those given, or a tenth of them where SLUICE_TRIALS is `quick`, for machines that emulate the
+/// proved end; then four at least, or half of what was given if that is less.
+pub fn short_form(seeds: u64) -> u64 {
+    match std::env::var("SLUICE_TRIALS").as_deref() {
+        Ok("quick") => seeds.div_ceil(10).max((seeds / 2).clamp(1, 4)),
+        _ => seeds,
+    }
+}
+
 /// Says how to repeat a trial, also where it panics.
 struct Repeat {
     name: &'static str,
@@ -150,7 +159,7 @@ pub fn run(trial: &Trial, seeds: Seeds) -> Result<String, String> {
 fn twins_report<M: Machine>(name: &'static str, seeds: Seeds) -> Result<String, String> {
     let runs = seeds.run(name, |seed| twins::trial::<M>(seed, CALLS))?;
     let sum = twins::sum(&runs);
-    if seeds.count >= 50 && sum.refused[1..=10].contains(&0) {
+    if seeds.count >= 20 && sum.refused[1..=10].contains(&0) {
         return Err(format!("a refusal from 1 to 10 was never seen: {:?}", sum.refused));
     }
     Ok(sum.to_string())
