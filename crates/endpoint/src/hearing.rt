@@ -18,6 +18,7 @@ use super::table::save_scalars;
 use super::table::save_sends;
 use super::table::scalars_in;
 use super::table::sends_in;
+use ring::CAPACITY;
 use sending::Line;
 use wire::Header;
 
@@ -92,8 +93,8 @@ fn data(t: &mut [u64], incoming: &mut [u8], marks: &mut [u8], d: &[u8], h: Heade
 {
     let s = scalars_in(t);
     let v = receiving::hear(
-        &mut incoming[0..65536],
-        &mut marks[0..65536],
+        &mut incoming[0..CAPACITY],
+        &mut marks[0..CAPACITY],
         s,
         h.position,
         &d[32..],

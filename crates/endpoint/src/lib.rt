@@ -10,8 +10,8 @@ mod ticking;
 ghost use Rattle.endpoint.specs.Calls.{Opens, Gives, Finishes, Hears, Takes, Ticks};
 use answer::refusal;
 use answer::value;
-use ready::CAPACITY;
 use ready::ready;
+use ring::CAPACITY;
 use table::scalars_in;
 
 // open epoch, R: a fresh end. The table is written in every word that an end relies on, and the marks are cleared.

@@ -6,12 +6,12 @@ ghost use Rattle.ring.specs.Ring.{capacity};
 ghost use Rattle.endpoint.specs.Layout.{tableWords};
 ghost use Rattle.endpoint.specs.Calls.{openRow};
 ghost use Rattle.endpoint.specs.Opening.{Opened};
-use super::ready::CAPACITY;
 use super::ready::interval_row;
 use super::ready::short_row;
 use super::table::Common;
 use super::table::Sends;
 use super::table::save_all;
+use ring::CAPACITY;
 
 // Refusals 10 and 11, or 0.
 pub fn open_row(interval: u64, table: usize, outgoing: usize, incoming: usize, marks: usize) -> u64
@@ -35,7 +35,7 @@ pub fn open_end(t: &mut [u64], marks: &mut [u8], epoch: u64, interval: u64)
     requires { ⌜ (tableWords ≤ length (now t)) × (capacity ≤ length (now marks)) ⌝ }
     ensures { λ _. ⌜ Opened (now (t .entry)) (now (marks .entry)) epoch interval (now (t .exit)) (now (marks .exit)) ⌝ }
 {
-    let v = receiving::start(&mut marks[0..65536]);
+    let v = receiving::start(&mut marks[0..CAPACITY]);
     let c = Common {
         opened: 1,
         epoch: epoch,

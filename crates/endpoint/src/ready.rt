@@ -8,13 +8,10 @@ use super::table::Common;
 use super::table::common_in;
 use super::table::scalars_in;
 use super::table::sends_in;
+use ring::CAPACITY;
+use wire::CEILING;
 
 pub const TABLE_WORDS: usize = 164;
-
-pub const CAPACITY: usize = 65536;
-
-// 2^62.
-pub const CEILING: u64 = 4611686018427387904;
 
 const INTERVAL_MOST: u64 = 65535;
 

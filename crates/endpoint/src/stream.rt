@@ -12,6 +12,7 @@ use super::table::save_sends;
 use super::table::scalars_in;
 use super::table::sends_in;
 use receiving::Scalars;
+use ring::CAPACITY;
 use sending::Line;
 
 pub fn finish(t: &mut [u64])
@@ -37,7 +38,7 @@ pub fn give(t: &mut [u64], outgoing: &mut [u8], bytes: &[u8]) -> u64
     let s = sends_in(t);
     let row = s.row;
     let line = s.line;
-    let n = sending::give(&mut outgoing[0..65536], line, row.acked, bytes);
+    let n = sending::give(&mut outgoing[0..CAPACITY], line, row.acked, bytes);
     let longer = Line {
         given: line.given + n,
         closed: line.closed,
@@ -58,7 +59,7 @@ pub fn take(t: &mut [u64], incoming: &[u8], out: &mut [u8]) -> Scalars
     ensures { λ r. ⌜ Took (now (t .entry)) (now (incoming .entry)) (now (out .entry)) r (now (t .exit)) (now (out .exit)) ⌝ }
 {
     let s = scalars_in(t);
-    let v = receiving::take(&incoming[0..65536], s, out);
+    let v = receiving::take(&incoming[0..CAPACITY], s, out);
     save_scalars(&mut t[15..20], v);
     v
 }

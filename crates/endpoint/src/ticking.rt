@@ -10,7 +10,6 @@ ghost use Rattle.endpoint.specs.Layout.{tableWords, sectionsOf, commonOf
 ghost use Rattle.endpoint.specs.Rows.{outputLeast, outputRow};
 ghost use Rattle.endpoint.specs.ReadyLaws.{Ready};
 ghost use Rattle.endpoint.specs.Ticking.{clockBy, allowanceBy, acksBy, AckSent, SegmentsSent, SendReady, Planned, AckReady, AckOver, TickReady, Ticked};
-use super::ready::CEILING;
 use super::table::Common;
 use super::table::Sends;
 use super::table::common_in;
@@ -19,9 +18,11 @@ use super::table::save_common;
 use super::table::save_sends;
 use super::table::scalars_in;
 use super::table::sends_in;
+use ring::CAPACITY;
 use sending::Sent;
 use sending::Stamp;
 use sending::Tick;
+use wire::CEILING;
 use wire::Header;
 
 // At most so many datagrams leave in a tick.
@@ -131,7 +132,7 @@ fn send_segments(t: &mut [u64], outgoing: &[u8], out: &mut [u8], w: Tick, e: Sta
     copy_words(&mut times, &t[100..164]);
     let r = sending::send(
         out,
-        &outgoing[0..65536],
+        &outgoing[0..CAPACITY],
         &mut t[36..100],
         &mut times,
         w,

@@ -8,9 +8,7 @@ ghost use Rattle.receiving.specs.Receiving.{endOf, endAt, beyondOf, misp
 ghost use Rattle.receiving.specs.Steps.{Written, Stored, Laid, Placed, Runs, Advanced, Unmarked};
 ghost use Rattle.receiving.specs.Calls.{Lent, Room, New, Starts, Fills, Hears, Takes, refusal, endedBy, positionBy, creditBy};
 use ring::CAPACITY;
-
-// 2^62: no byte stands at this position or above.
-const CEILING: u64 = 4611686018427387904;
+use wire::CEILING;
 
 // Bytes below taken are with the host. low is the lowest missing position, high one more than the highest that has arrived, or taken. end is the END's position where known is not 0.
 pub struct Scalars {

@@ -11,16 +11,12 @@ ghost use Rattle.sending.specs.Acking.{ackRefusal};
 ghost use Rattle.sending.specs.Steps.{dueOf, cutTo, agoOf, probesOf};
 ghost use Rattle.sending.specs.Buffers.{wordOf, Plausible, freshLine, freshRow};
 ghost use Rattle.sending.specs.Outcome.{datagramMost, SentOne, Room, Resends, Cuts, Both, Sends, Acked, Granted, Gave, Tells};
+use ring::CAPACITY;
+use wire::CEILING;
+use wire::PAYLOAD_MOST;
 
-const CAPACITY: u64 = 65536;
-
-// 2^62.
-const CEILING: u64 = 4611686018427387904;
-
-// The bytes before the payload, and the longest payload.
+// The bytes before the payload.
 const HEAD: usize = 32;
-
-const PAYLOAD: u64 = 1024;
 
 // At most so many segments are kept.
 const SEGMENTS: u64 = 64;
@@ -88,7 +84,7 @@ pub fn fresh_line() -> Line
     Line {
         given: 0,
         closed: 0,
-        limit: CAPACITY,
+        limit: CAPACITY as u64,
     }
 }
 
@@ -131,7 +127,7 @@ pub fn plausible(l: Line, p: Row) -> bool
     if l.given + 1 < p.next {
         return false;
     }
-    if CAPACITY < minus(l.given, p.acked) {
+    if (CAPACITY as u64) < minus(l.given, p.acked) {
         return false;
     }
     if SEGMENTS <= p.oldest {
@@ -145,7 +141,7 @@ fn room(l: Line, acked: u64) -> u64
 {
     if l.closed != 1 {
         return least(
-            minus(CAPACITY, minus(l.given, acked)),
+            minus(CAPACITY as u64, minus(l.given, acked)),
             minus(CEILING, l.given),
         );
     }
@@ -231,7 +227,7 @@ pub fn grant(limit: u64, probed: u64, top: u64) -> Credit
 fn size(given: u64, from: u64, to: u64) -> u64
     ensures { λ r. ⌜ r ≡ sizeOf given from to ⌝ }
 {
-    least(PAYLOAD, minus(least(to, given), from))
+    least(PAYLOAD_MOST, minus(least(to, given), from))
 }
 
 fn end_flag(given: u64, to: u64) -> u64
@@ -368,7 +364,7 @@ fn resend(
 fn new_bytes(l: Line, a: u64) -> u64
     ensures { λ r. ⌜ r ≡ min payloadMost (min (l .given - a) (l .limit - a)) ⌝ }
 {
-    least(PAYLOAD, least(minus(l.given, a), minus(l.limit, a)))
+    least(PAYLOAD_MOST, least(minus(l.given, a), minus(l.limit, a)))
 }
 
 // Where a segment from a on would end.

@@ -51,7 +51,14 @@ pub fn take(what: &[u8], table: &mut [u64], incoming: &[u8], room: &mut [u8])
 }
 
 // The 16 bytes go over, and are acknowledged.
-fn bytes_go(near: &mut [u64], outgoing: &mut [u8], far: &mut [u64], incoming: &mut [u8], marks: &mut [u8], out: &mut [u8])
+fn bytes_go(
+    near: &mut [u64],
+    outgoing: &mut [u8],
+    far: &mut [u64],
+    incoming: &mut [u8],
+    marks: &mut [u8],
+    out: &mut [u8],
+)
     requires { ⌜ length (now out) ≡ 33792 ⌝ }
 {
     give(b"near gives ", near, outgoing, b"GATE 3 TO 40 CM\n");
@@ -60,7 +67,14 @@ fn bytes_go(near: &mut [u64], outgoing: &mut [u8], far: &mut [u64], incoming: &m
 }
 
 // The END goes over.
-fn end_goes(near: &mut [u64], outgoing: &mut [u8], far: &mut [u64], incoming: &mut [u8], marks: &mut [u8], out: &mut [u8])
+fn end_goes(
+    near: &mut [u64],
+    outgoing: &mut [u8],
+    far: &mut [u64],
+    incoming: &mut [u8],
+    marks: &mut [u8],
+    out: &mut [u8],
+)
     requires { ⌜ length (now out) ≡ 33792 ⌝ }
 {
     show::text(b"near finishes: ");
@@ -70,11 +84,24 @@ fn end_goes(near: &mut [u64], outgoing: &mut [u8], far: &mut [u64], incoming: &m
 }
 
 // An ACK goes back.
-fn ack_goes(far: &mut [u64], far_outgoing: &[u8], near: &mut [u64], near_incoming: &mut [u8], near_marks: &mut [u8], out: &mut [u8])
+fn ack_goes(
+    far: &mut [u64],
+    far_outgoing: &[u8],
+    near: &mut [u64],
+    near_incoming: &mut [u8],
+    near_marks: &mut [u8],
+    out: &mut [u8],
+)
     requires { ⌜ length (now out) ≡ 33792 ⌝ }
 {
     let n = send(b"far sends\n", far, far_outgoing, out);
-    hear(b"near hears it: ", near, near_incoming, near_marks, &out[0..n]);
+    hear(
+        b"near hears it: ",
+        near,
+        near_incoming,
+        near_marks,
+        &out[0..n],
+    );
 }
 
 pub fn run() {
@@ -88,12 +115,57 @@ pub fn run() {
     let mut far_marks = [0u8; 65536];
     let mut out = [0u8; 33792];
     let mut room = [0u8; 64];
-    open(b"near opens: ", &mut near, &near_outgoing, &near_incoming, &mut near_marks);
-    open(b"far opens: ", &mut far, &far_outgoing, &far_incoming, &mut far_marks);
-    bytes_go(&mut near, &mut near_outgoing, &mut far, &mut far_incoming, &mut far_marks, &mut out);
-    ack_goes(&mut far, &far_outgoing, &mut near, &mut near_incoming, &mut near_marks, &mut out);
-    end_goes(&mut near, &mut near_outgoing, &mut far, &mut far_incoming, &mut far_marks, &mut out);
+    open(
+        b"near opens: ",
+        &mut near,
+        &near_outgoing,
+        &near_incoming,
+        &mut near_marks,
+    );
+    open(
+        b"far opens: ",
+        &mut far,
+        &far_outgoing,
+        &far_incoming,
+        &mut far_marks,
+    );
+    bytes_go(
+        &mut near,
+        &mut near_outgoing,
+        &mut far,
+        &mut far_incoming,
+        &mut far_marks,
+        &mut out,
+    );
+    ack_goes(
+        &mut far,
+        &far_outgoing,
+        &mut near,
+        &mut near_incoming,
+        &mut near_marks,
+        &mut out,
+    );
+    end_goes(
+        &mut near,
+        &mut near_outgoing,
+        &mut far,
+        &mut far_incoming,
+        &mut far_marks,
+        &mut out,
+    );
     take(b"far takes ", &mut far, &far_incoming, &mut room);
-    ack_goes(&mut far, &far_outgoing, &mut near, &mut near_incoming, &mut near_marks, &mut out);
-    send(b"near has nothing left to send\n", &mut near, &near_outgoing, &mut out);
+    ack_goes(
+        &mut far,
+        &far_outgoing,
+        &mut near,
+        &mut near_incoming,
+        &mut near_marks,
+        &mut out,
+    );
+    send(
+        b"near has nothing left to send\n",
+        &mut near,
+        &near_outgoing,
+        &mut out,
+    );
 }

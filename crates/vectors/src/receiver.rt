@@ -7,7 +7,15 @@ use super::ends;
 use super::show;
 
 // A DATA of eight bytes, or of none with the END.
-fn data(table: &mut [u64], incoming: &mut [u8], marks: &mut [u8], number: u64, position: u64, flags: u64, d: &mut [u8]) -> i64
+fn data(
+    table: &mut [u64],
+    incoming: &mut [u8],
+    marks: &mut [u8],
+    number: u64,
+    position: u64,
+    flags: u64,
+    d: &mut [u8],
+) -> i64
     requires { ⌜ (32 ≤ length (now d)) × (length (now d) ≤ 40) ⌝ }
 {
     let h = wire::Header {
@@ -23,13 +31,29 @@ fn data(table: &mut [u64], incoming: &mut [u8], marks: &mut [u8], number: u64, p
     endpoint::sluice_datagram(table, incoming, marks, d)
 }
 
-fn eight(what: &[u8], table: &mut [u64], incoming: &mut [u8], marks: &mut [u8], number: u64, position: u64, flags: u64, first: u8) {
+fn eight(
+    what: &[u8],
+    table: &mut [u64],
+    incoming: &mut [u8],
+    marks: &mut [u8],
+    number: u64,
+    position: u64,
+    flags: u64,
+    first: u8,
+) {
     let mut d = [first; 40];
     show::text(what);
     ends::answer(data(table, incoming, marks, number, position, flags, &mut d));
 }
 
-fn none(what: &[u8], table: &mut [u64], incoming: &mut [u8], marks: &mut [u8], number: u64, position: u64) {
+fn none(
+    what: &[u8],
+    table: &mut [u64],
+    incoming: &mut [u8],
+    marks: &mut [u8],
+    number: u64,
+    position: u64,
+) {
     let mut d = [0u8; 32];
     show::text(what);
     ends::answer(data(table, incoming, marks, number, position, 1, &mut d));
@@ -52,8 +76,22 @@ fn overlap(table: &mut [u64], incoming: &mut [u8], marks: &mut [u8]) {
 }
 
 fn later_first(table: &mut [u64], incoming: &mut [u8], marks: &mut [u8]) {
-    fresh(b"out of order, and the END before its bytes: ", table, incoming, marks);
-    eight(b"bbbbbbbb and END at 8: ", table, incoming, marks, 1, 8, 1, b'b');
+    fresh(
+        b"out of order, and the END before its bytes: ",
+        table,
+        incoming,
+        marks,
+    );
+    eight(
+        b"bbbbbbbb and END at 8: ",
+        table,
+        incoming,
+        marks,
+        1,
+        8,
+        1,
+        b'b',
+    );
     handed(table, incoming);
 }
 
@@ -69,8 +107,26 @@ fn far_end(table: &mut [u64], incoming: &mut [u8], marks: &mut [u8]) {
 }
 
 fn far_bytes(table: &mut [u64], incoming: &mut [u8], marks: &mut [u8]) {
-    eight(b"a byte at 65,536: ", table, incoming, marks, 3, 65529, 0, b'x');
-    eight(b"the bytes before it: ", table, incoming, marks, 4, 65528, 0, b'y');
+    eight(
+        b"a byte at 65,536: ",
+        table,
+        incoming,
+        marks,
+        3,
+        65529,
+        0,
+        b'x',
+    );
+    eight(
+        b"the bytes before it: ",
+        table,
+        incoming,
+        marks,
+        4,
+        65528,
+        0,
+        b'y',
+    );
 }
 
 // One byte of every eight handed up is looked at.

@@ -4,7 +4,14 @@ ghost use lib.ListN.{length};
 use super::ends;
 use super::show;
 
-fn header(kind: u64, flags: u64, length: u64, epoch: u64, number: u64, position: u64) -> wire::Header {
+fn header(
+    kind: u64,
+    flags: u64,
+    length: u64,
+    epoch: u64,
+    number: u64,
+    position: u64,
+) -> wire::Header {
     wire::Header {
         kind: kind,
         flags: flags,
@@ -17,7 +24,13 @@ fn header(kind: u64, flags: u64, length: u64, epoch: u64, number: u64, position:
 }
 
 // The header h with eight bytes after it, or without.
-fn whole(table: &mut [u64], incoming: &mut [u8], marks: &mut [u8], d: &mut [u8], h: wire::Header) -> i64
+fn whole(
+    table: &mut [u64],
+    incoming: &mut [u8],
+    marks: &mut [u8],
+    d: &mut [u8],
+    h: wire::Header,
+) -> i64
     requires { ⌜ 32 ≤ length (now d) ⌝ }
 {
     wire::write(&mut d[0..32], h);
@@ -40,34 +53,111 @@ fn tick(table: &mut [u64], outgoing: &[u8], out: &mut [u8]) {
     ends::answer(endpoint::sluice_tick(table, outgoing, out));
 }
 
-fn refused(what: &[u8], table: &mut [u64], buffer: &mut [u8], marks: &mut [u8], out: &mut [u8], h: wire::Header) {
+fn refused(
+    what: &[u8],
+    table: &mut [u64],
+    buffer: &mut [u8],
+    marks: &mut [u8],
+    out: &mut [u8],
+    h: wire::Header,
+) {
     hear(what, table, buffer, marks, h);
     tick(table, buffer, out);
 }
 
 fn form(table: &mut [u64], buffer: &mut [u8], marks: &mut [u8], out: &mut [u8]) {
-    refused(b"length 9 in a datagram of 32 bytes: ", table, buffer, marks, out, header(1, 0, 9, 7, 1, 0));
-    refused(b"kind 9: ", table, buffer, marks, out, header(9, 0, 0, 7, 1, 0));
+    refused(
+        b"length 9 in a datagram of 32 bytes: ",
+        table,
+        buffer,
+        marks,
+        out,
+        header(1, 0, 9, 7, 1, 0),
+    );
+    refused(
+        b"kind 9: ",
+        table,
+        buffer,
+        marks,
+        out,
+        header(9, 0, 0, 7, 1, 0),
+    );
 }
 
 fn strangers(table: &mut [u64], buffer: &mut [u8], marks: &mut [u8], out: &mut [u8]) {
-    refused(b"epoch 8: ", table, buffer, marks, out, header(3, 0, 0, 8, 1, 0));
-    refused(b"number 0: ", table, buffer, marks, out, header(3, 0, 0, 7, 0, 0));
+    refused(
+        b"epoch 8: ",
+        table,
+        buffer,
+        marks,
+        out,
+        header(3, 0, 0, 8, 1, 0),
+    );
+    refused(
+        b"number 0: ",
+        table,
+        buffer,
+        marks,
+        out,
+        header(3, 0, 0, 7, 0, 0),
+    );
 }
 
 fn numbers(table: &mut [u64], buffer: &mut [u8], marks: &mut [u8], out: &mut [u8]) {
-    refused(b"number 5,000, a PROBE: ", table, buffer, marks, out, header(3, 0, 0, 7, 5000, 0));
-    refused(b"number 3,976: ", table, buffer, marks, out, header(3, 0, 0, 7, 3976, 0));
+    refused(
+        b"number 5,000, a PROBE: ",
+        table,
+        buffer,
+        marks,
+        out,
+        header(3, 0, 0, 7, 5000, 0),
+    );
+    refused(
+        b"number 3,976: ",
+        table,
+        buffer,
+        marks,
+        out,
+        header(3, 0, 0, 7, 3976, 0),
+    );
 }
 
 fn places(table: &mut [u64], buffer: &mut [u8], marks: &mut [u8], out: &mut [u8]) {
-    refused(b"number 5,000 again: ", table, buffer, marks, out, header(3, 0, 0, 7, 5000, 0));
-    refused(b"ACK at 1, with nothing sent: ", table, buffer, marks, out, header(2, 0, 0, 7, 5001, 1));
+    refused(
+        b"number 5,000 again: ",
+        table,
+        buffer,
+        marks,
+        out,
+        header(3, 0, 0, 7, 5000, 0),
+    );
+    refused(
+        b"ACK at 1, with nothing sent: ",
+        table,
+        buffer,
+        marks,
+        out,
+        header(2, 0, 0, 7, 5001, 1),
+    );
 }
 
 fn streams(table: &mut [u64], buffer: &mut [u8], marks: &mut [u8], out: &mut [u8]) {
-    refused(b"a byte at 65,536: ", table, buffer, marks, out, header(1, 0, 8, 7, 5001, 65529));
-    refused(b"END alone at 4: ", table, buffer, marks, out, header(1, 1, 0, 7, 5001, 4));
+    refused(
+        b"a byte at 65,536: ",
+        table,
+        buffer,
+        marks,
+        out,
+        header(1, 0, 8, 7, 5001, 65529),
+    );
+    refused(
+        b"END alone at 4: ",
+        table,
+        buffer,
+        marks,
+        out,
+        header(1, 1, 0, 7, 5001, 4),
+    );
 }
 
 fn opening(what: &[u8], table: &mut [u64], buffer: &[u8], marks: &mut [u8], interval: u64) {
@@ -99,5 +189,12 @@ pub fn run() {
     numbers(&mut table, &mut buffer, &mut marks, &mut out);
     places(&mut table, &mut buffer, &mut marks, &mut out);
     streams(&mut table, &mut buffer, &mut marks, &mut out);
-    refused(b"bytes after it: ", &mut table, &mut buffer, &mut marks, &mut out, header(1, 0, 8, 7, 5002, 0));
+    refused(
+        b"bytes after it: ",
+        &mut table,
+        &mut buffer,
+        &mut marks,
+        &mut out,
+        header(1, 0, 8, 7, 5002, 0),
+    );
 }

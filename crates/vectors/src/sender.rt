@@ -39,7 +39,15 @@ fn ticks(table: &mut [u64], outgoing: &[u8], out: &mut [u8])
     show::text(b"\n");
 }
 
-fn ack(what: &[u8], table: &mut [u64], incoming: &mut [u8], marks: &mut [u8], number: u64, position: u64, credit: u64) {
+fn ack(
+    what: &[u8],
+    table: &mut [u64],
+    incoming: &mut [u8],
+    marks: &mut [u8],
+    number: u64,
+    position: u64,
+    credit: u64,
+) {
     let mut d = [0u8; 32];
     let h = wire::Header {
         kind: 2,
@@ -59,7 +67,12 @@ fn cut(table: &mut [u64], outgoing: &mut [u8], marks: &mut [u8], out: &mut [u8])
     requires { ⌜ length (now out) ≡ 33792 ⌝ }
 {
     let given = [b'g'; 1030];
-    fresh(b"1,024 and the rest, and the END after the last bytes: ", table, outgoing, marks);
+    fresh(
+        b"1,024 and the rest, and the END after the last bytes: ",
+        table,
+        outgoing,
+        marks,
+    );
     give(b"give ", table, outgoing, &given);
     tick(table, outgoing, out);
     finish(table);
@@ -69,7 +82,12 @@ fn cut(table: &mut [u64], outgoing: &mut [u8], marks: &mut [u8], out: &mut [u8])
 fn last(table: &mut [u64], outgoing: &mut [u8], marks: &mut [u8], out: &mut [u8])
     requires { ⌜ length (now out) ≡ 33792 ⌝ }
 {
-    fresh(b"the END with the last bytes, sent again in ticks R and 2R: ", table, outgoing, marks);
+    fresh(
+        b"the END with the last bytes, sent again in ticks R and 2R: ",
+        table,
+        outgoing,
+        marks,
+    );
     give(b"give ", table, outgoing, b"six...");
     finish(table);
     tick(table, outgoing, out);
@@ -97,22 +115,50 @@ fn many(table: &mut [u64], outgoing: &mut [u8], marks: &mut [u8], out: &mut [u8]
 }
 
 // After `many`: a peer that holds all and has no room, and then room for one byte.
-fn full(table: &mut [u64], outgoing: &mut [u8], incoming: &mut [u8], marks: &mut [u8], out: &mut [u8])
+fn full(
+    table: &mut [u64],
+    outgoing: &mut [u8],
+    incoming: &mut [u8],
+    marks: &mut [u8],
+    out: &mut [u8],
+)
     requires { ⌜ length (now out) ≡ 33792 ⌝ }
 {
-    ack(b"ACK at 65,536 with no credit: ", table, incoming, marks, 1, 65536, 0);
+    ack(
+        b"ACK at 65,536 with no credit: ",
+        table,
+        incoming,
+        marks,
+        1,
+        65536,
+        0,
+    );
     give(b"give ", table, outgoing, b"more");
     tick(table, outgoing, out);
     again(table, outgoing, out);
 }
 
-fn one(table: &mut [u64], outgoing: &mut [u8], incoming: &mut [u8], marks: &mut [u8], out: &mut [u8])
+fn one(
+    table: &mut [u64],
+    outgoing: &mut [u8],
+    incoming: &mut [u8],
+    marks: &mut [u8],
+    out: &mut [u8],
+)
     requires { ⌜ length (now out) ≡ 33792 ⌝ }
 {
     ack(b"ACK with credit 1: ", table, incoming, marks, 2, 65536, 1);
     tick(table, outgoing, out);
     ack(b"an older ACK: ", table, incoming, marks, 3, 65535, 0);
-    ack(b"ACK above what was ever sent: ", table, incoming, marks, 4, 65538, 0);
+    ack(
+        b"ACK above what was ever sent: ",
+        table,
+        incoming,
+        marks,
+        4,
+        65538,
+        0,
+    );
 }
 
 pub fn run() {
@@ -124,6 +170,18 @@ pub fn run() {
     cut(&mut table, &mut outgoing, &mut marks, &mut out);
     last(&mut table, &mut outgoing, &mut marks, &mut out);
     many(&mut table, &mut outgoing, &mut marks, &mut out);
-    full(&mut table, &mut outgoing, &mut incoming, &mut marks, &mut out);
-    one(&mut table, &mut outgoing, &mut incoming, &mut marks, &mut out);
+    full(
+        &mut table,
+        &mut outgoing,
+        &mut incoming,
+        &mut marks,
+        &mut out,
+    );
+    one(
+        &mut table,
+        &mut outgoing,
+        &mut incoming,
+        &mut marks,
+        &mut out,
+    );
 }

@@ -9,6 +9,9 @@ pub const HEAD_SIZE: u64 = 32;
 
 pub const PAYLOAD_MOST: u64 = 1024;
 
+// 2^62: numbers, ticks and positions stay below it.
+pub const CEILING: u64 = 4611686018427387904;
+
 // The fields before the payload.
 pub struct Header {
     pub kind: u64,

@@ -1,3 +1,4 @@
+-- `endpoint::sluice_datagram` meets its contract. Assumes nothing.
 use Rattle.endpoint.specs.OutcomeLaws.{ready-small}
 use Rattle.endpoint.specs.SmallLaws.{hear-small}
 use Rattle.endpoint.specs.ReadyLaws.{ready-table, ready-sections}

@@ -1,3 +1,4 @@
+-- `endpoint::sluice_finish` meets its contract. Assumes nothing.
 use Rattle.endpoint.specs.OutcomeLaws.{ready-small, finish-refused, finish-done}
 use Rattle.endpoint.specs.ReadyLaws.{ready-table, ready-sections}
 use borrow.Author.Needs.{needs}

@@ -1,3 +1,4 @@
+-- `endpoint::sluice_give` meets its contract. Assumes nothing.
 use Rattle.endpoint.specs.OutcomeLaws.{ready-small, give-refused, give-done}
 use Rattle.endpoint.specs.ReadyLaws.{ready-table, ready-first, ready-sections}
 use borrow.Author.Needs.{needs}

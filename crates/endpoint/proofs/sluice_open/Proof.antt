@@ -1,3 +1,4 @@
+-- `endpoint::sluice_open` meets its contract. Assumes nothing.
 use Rattle.endpoint.specs.OpeningLaws.{open-small, open-table, open-marks, open-refused, open-done}
 use borrow.Author.Needs.{needs}
 use Rattle.endpoint.proofs.sluice_open.Statement.{statement}

@@ -1,3 +1,4 @@
+-- `endpoint::sluice_take` meets its contract. Assumes nothing.
 use native.Mathlib.Omega.{arith}
 use Rattle.endpoint.specs.OutcomeLaws.{ready-small, take-refused, ended-small, taken-up, taken-few, take-done}
 use Rattle.endpoint.specs.ReadyLaws.{ready-table, ready-first, ready-sections}

@@ -1,3 +1,4 @@
+-- `endpoint::sluice_tick` meets its contract. Assumes nothing.
 use Rattle.endpoint.specs.Answer.{answerOf}
 use Rattle.endpoint.specs.OutcomeLaws.{ready-small}
 use Rattle.endpoint.specs.TickedLaws.{output-small, tick-unready, tick-refused, tick-ready, tick-done}

@@ -1,3 +1,4 @@
+-- `sending::ack` meets its contract. Assumes nothing.
 use Rattle.sending.proofs.Acking.{Acking, acking-none, acking-more, acking-stop, acking-all}
 use Prim.Native.Nat.{_-_}
 use borrow.Author.Needs.{needs}

@@ -1,3 +1,4 @@
+-- `sending::ack_refusal` meets its contract. Assumes nothing.
 use Rattle.laws.specs.Rows.{when}
 use borrow.Author.Tests.{lt-ltb, le-ltb}
 use Rattle.sending.proofs.ack_refusal.Statement.{statement}

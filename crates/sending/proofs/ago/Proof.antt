@@ -1,3 +1,4 @@
+-- `sending::ago` meets its contract. Assumes nothing.
 use Rattle.sending.proofs.Tests.{ago-never, ago-some}
 use borrow.Author.Needs.{needs}
 use Rattle.sending.proofs.ago.Statement.{statement}

@@ -1,3 +1,4 @@
+-- `sending::cut` meets its contract. Assumes nothing.
 use Rattle.sending.proofs.Cutting.{Cutting, cutting-none, cutting-more, cutting-full, cutting-nothing, cutting-all}
 use Prim.Native.Nat.{_-_}
 use borrow.Author.Needs.{needs}

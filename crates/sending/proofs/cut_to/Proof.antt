@@ -1,3 +1,4 @@
+-- `sending::cut_to` meets its contract. Assumes nothing.
 use Rattle.sending.specs.StepLaws.{cut-to-end, cut-to-more, cut-to-open}
 use borrow.Author.Needs.{needs}
 use Rattle.sending.proofs.cut_to.Statement.{statement}

@@ -1,3 +1,4 @@
+-- `sending::due` meets its contract. Assumes nothing.
 use native.Mathlib.Omega.{arith}
 use Rattle.sending.specs.Steps.{dueOf}
 use borrow.Author.Tests.{le-leb, lt-leb}

@@ -1,3 +1,4 @@
+-- `sending::end_flag` meets its contract. Assumes nothing.
 use borrow.Author.Tests.{lt-ltb, le-ltb}
 use Rattle.sending.proofs.end_flag.Statement.{statement}
 use Rattle.sending.proofs.end_flag.Tie as tie

@@ -1,3 +1,4 @@
+-- `sending::fetch` meets its contract. Assumes nothing.
 use native.Mathlib.Omega.{arith}
 use Rattle.ring.specs.SpanLaws.{got-span}
 use lib.ListN.{length}

@@ -1,3 +1,4 @@
+-- `sending::fresh_line` meets its contract. Assumes nothing.
 use Rattle.sending.specs.Buffers.{freshLine}
 use mathlib.Core.Path.{refl}
 use Rattle.sending.proofs.fresh_line.Statement.{statement}

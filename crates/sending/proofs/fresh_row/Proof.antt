@@ -1,3 +1,4 @@
+-- `sending::fresh_row` meets its contract. Assumes nothing.
 use Rattle.sending.specs.Buffers.{freshRow}
 use mathlib.Core.Path.{refl}
 use Rattle.sending.proofs.fresh_row.Statement.{statement}

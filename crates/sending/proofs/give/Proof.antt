@@ -1,3 +1,4 @@
+-- `sending::give` meets its contract. Assumes nothing.
 use Rattle.ring.specs.Ring.{Put}
 use native.Mathlib.Nat.{sub-zero}
 use Prim.Native.Nat.{_-_}

@@ -1,3 +1,4 @@
+-- `sending::grant` meets its contract. Assumes nothing.
 use native.Mathlib.Omega.{arith}
 use Rattle.sending.specs.Buffers.{wordOf}
 use borrow.Author.Tests.{lt-ltb, le-ltb}

@@ -1,3 +1,4 @@
+-- `sending::plausible` meets its contract. Assumes nothing.
 use native.Mathlib.Omega.{arith}
 use borrow.Author.Tests.{leb-true, le-leb}
 use Rattle.sending.proofs.Tests.{tells-no}

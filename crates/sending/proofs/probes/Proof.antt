@@ -1,3 +1,4 @@
+-- `sending::probes` meets its contract. Assumes nothing.
 use Rattle.sending.proofs.Tests.{probes-given, probes-kept, probes-limit, probes-allowed, probes-ago}
 use borrow.Author.Needs.{needs}
 use Rattle.sending.proofs.probes.Statement.{statement}

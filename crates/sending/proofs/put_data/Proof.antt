@@ -1,3 +1,4 @@
+-- `sending::put_data` meets its contract. Assumes nothing.
 use native.Mathlib.Omega.{arith}
 use Rattle.ring.specs.SpanLaws.{span-length}
 use Rattle.ring.specs.Ring.{span}

@@ -1,3 +1,4 @@
+-- `sending::resend` meets its contract. Assumes nothing.
 use Rattle.sending.specs.StepLaws.{due-allowed}
 use Rattle.sending.proofs.Resending.{Resending, resending-none, resending-skip, resending-send, resending-full, resending-all}
 use Prim.Native.Nat.{_-_, _≤_}

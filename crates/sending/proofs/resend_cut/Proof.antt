@@ -1,3 +1,4 @@
+-- `sending::resend_cut` meets its contract. Assumes nothing.
 use native.Mathlib.Omega.{arith}
 use Rattle.sending.proofs.Steps.{both}
 use Rattle.ring.specs.Ring.{span}

@@ -1,3 +1,4 @@
+-- `sending::room` meets its contract. Assumes nothing.
 use native.Mathlib.Omega.{arith}
 use Rattle.sending.specs.GiveLaws.{room-closed, room-open}
 use borrow.Author.Needs.{needs}

@@ -1,3 +1,4 @@
+-- `sending::send` meets its contract. Assumes nothing.
 use native.Mathlib.Omega.{arith}
 use Rattle.ring.specs.Ring.{span}
 use Rattle.sending.specs.Buffers.{segs}

@@ -1,3 +1,4 @@
+-- `sending::send_data` meets its contract. Assumes nothing.
 use native.Mathlib.Omega.{arith}
 use Rattle.sending.proofs.Data.{sent-data}
 use Prim.Native.Nat.{_+_, _-_}

@@ -1,3 +1,4 @@
+-- `sending::send_probe` meets its contract. Assumes nothing.
 use native.Mathlib.Omega.{arith}
 use Rattle.sending.proofs.Data.{sent-probe}
 use Prim.Native.Nat.{_+_, _-_}

@@ -1,3 +1,4 @@
+-- `window::verdict` meets its contract. Assumes nothing.
 use borrow.Author.Needs.{needs}
 use Rattle.window.specs.MarksLaws.{verdicts}
 use Rattle.window.proofs.verdict.Statement.{statement}

@@ -1,3 +1,4 @@
+-- `wire::data_row` meets its contract. Assumes nothing.
 use borrow.Author.Needs.{needs}
 use Rattle.wire.specs.Reading.{dataRow}
 use Rattle.laws.specs.RowsLaws.{rows}

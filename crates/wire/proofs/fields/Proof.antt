@@ -1,3 +1,4 @@
+-- `wire::fields` meets its contract. Assumes nothing.
 use borrow.Author.Needs.{needs}
 use Rattle.wire.specs.Reading.{fieldsOf}
 use Rattle.wire.proofs.fields.Statement.{statement}

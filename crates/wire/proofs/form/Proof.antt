@@ -1,3 +1,4 @@
+-- `wire::form` meets its contract. Assumes nothing.
 use borrow.Author.Needs.{needs}
 use Rattle.wire.specs.Reading.{formOf}
 use Rattle.laws.specs.RowsLaws.{rows}

@@ -1,3 +1,4 @@
+-- `wire::plain_row` meets its contract. Assumes nothing.
 use borrow.Author.Needs.{needs}
 use Rattle.wire.specs.Reading.{plainRow}
 use Rattle.laws.specs.RowsLaws.{rows}

@@ -1,3 +1,4 @@
+-- `wire::rows` meets its contract. Assumes nothing.
 use borrow.Author.Needs.{needs}
 use Rattle.wire.specs.Reading.{rowsOf}
 use Rattle.laws.specs.RowsLaws.{rows}

@@ -1,3 +1,4 @@
+-- `wire::write` meets its contract. Assumes nothing.
 use native.Mathlib.Omega.{arith}
 use Rattle.laws.specs.OverLaws.{parts-2}
 use Rattle.wire.specs.Datagram.{headOf, startOf, restOf}

@@ -1,3 +1,4 @@
+-- `wire::write_rest` meets its contract. Assumes nothing.
 use native.Mathlib.Omega.{arith}
 use Rattle.wire.specs.Datagram.{be}
 use Rattle.laws.specs.OverLaws.{parts-3}

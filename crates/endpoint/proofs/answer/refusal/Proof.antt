@@ -1,3 +1,4 @@
+-- `endpoint::answer::refusal` meets its contract. Assumes nothing.
 use Rattle.endpoint.specs.AnswerLaws.{refusal-fits, refusal-is}
 use borrow.Author.Needs.{needs}
 use Rattle.endpoint.proofs.answer.refusal.Statement.{statement}

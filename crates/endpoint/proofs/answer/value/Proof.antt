@@ -1,3 +1,4 @@
+-- `endpoint::answer::value` meets its contract. Assumes nothing.
 use Rattle.endpoint.specs.AnswerLaws.{value-is}
 use borrow.Author.Needs.{needs}
 use Rattle.endpoint.proofs.answer.value.Statement.{statement}

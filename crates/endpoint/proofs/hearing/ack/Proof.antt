@@ -1,3 +1,4 @@
+-- `endpoint::hearing::ack` meets its contract. Assumes nothing.
 use native.Mathlib.Omega.{arith}
 use Rattle.endpoint.specs.Layout.{sectionsOf}
 use Rattle.endpoint.specs.HearingLaws.{ack-row, ack-within, judged-some, judged-near, ack-done}

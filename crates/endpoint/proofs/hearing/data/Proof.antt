@@ -1,3 +1,4 @@
+-- `endpoint::hearing::data` meets its contract. Assumes nothing.
 use Rattle.endpoint.specs.HearingLaws.{data-lent, data-room, data-some, data-near, data-done}
 use borrow.Author.Needs.{needs}
 use Rattle.endpoint.proofs.hearing.data.Statement.{statement}

@@ -1,3 +1,4 @@
+-- `endpoint::hearing::hear` meets its contract. Assumes nothing.
 use Rattle.endpoint.specs.HearingLaws.{may-hearing, may-judged, judged-some, judged-near, heard-data, heard-ack, heard-probe}
 use borrow.Author.Needs.{needs}
 use Rattle.endpoint.proofs.hearing.hear.Statement.{statement}

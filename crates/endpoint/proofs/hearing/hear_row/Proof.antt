@@ -1,3 +1,4 @@
+-- `endpoint::hearing::hear_row` meets its contract. Assumes nothing.
 use Rattle.endpoint.specs.HearingLaws.{hear-form, hear-judge, form-header}
 use borrow.Author.Needs.{needs}
 use Rattle.endpoint.proofs.hearing.hear_row.Statement.{statement}

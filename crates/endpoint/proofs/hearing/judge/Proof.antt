@@ -1,3 +1,4 @@
+-- `endpoint::hearing::judge` meets its contract. Assumes nothing.
 use Rattle.endpoint.specs.HearingLaws.{judge-epoch, judge-number, judge-place}
 use Rattle.endpoint.specs.Layout.{sectionsOf}
 use borrow.Author.Needs.{needs}

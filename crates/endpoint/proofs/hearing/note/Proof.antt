@@ -1,3 +1,4 @@
+-- `endpoint::hearing::note` meets its contract. Assumes nothing.
 use Rattle.endpoint.specs.Layout.{sectionsOf}
 use Rattle.endpoint.specs.HearingLaws.{near-loaded, noted}
 use borrow.Author.Needs.{needs}

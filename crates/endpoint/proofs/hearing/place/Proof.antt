@@ -1,3 +1,4 @@
+-- `endpoint::hearing::place` meets its contract. Assumes nothing.
 use Rattle.endpoint.specs.HearingLaws.{place-data, place-ack, place-probe}
 use Rattle.endpoint.specs.StreamLaws.{ready-ranged}
 use borrow.Author.Needs.{needs}

@@ -1,3 +1,4 @@
+-- `endpoint::opening::open_end` meets its contract. Assumes nothing.
 use Rattle.endpoint.specs.OpeningLaws.{opened}
 use borrow.Author.Needs.{needs}
 use Rattle.endpoint.proofs.opening.open_end.Statement.{statement}

@@ -1,3 +1,4 @@
+-- `endpoint::opening::open_row` meets its contract. Assumes nothing.
 use Rattle.endpoint.specs.Calls.{openRow}
 use borrow.Author.Needs.{needs}
 use Rattle.laws.specs.RowsLaws.{rows}

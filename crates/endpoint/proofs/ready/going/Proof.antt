@@ -1,3 +1,4 @@
+-- `endpoint::ready::going` meets its contract. Assumes nothing.
 use Rattle.laws.specs.RowsLaws.{tests}
 use Rattle.endpoint.specs.Rows.{goingOf}
 use borrow.Author.Needs.{needs}

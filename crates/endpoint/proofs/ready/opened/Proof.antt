@@ -1,3 +1,4 @@
+-- `endpoint::ready::opened` meets its contract. Assumes nothing.
 use Rattle.endpoint.specs.ReadyLaws.{opened-plausible, opened-not-orderly, opened-not-going}
 use borrow.Author.Needs.{needs}
 use Rattle.endpoint.proofs.ready.opened.Statement.{statement}

@@ -1,3 +1,4 @@
+-- `endpoint::ready::ready` meets its contract. Assumes nothing.
 use Rattle.endpoint.specs.ReadyLaws.{short-table, ready-short, ready-fine, ready-unopened}
 use borrow.Author.Needs.{needs}
 use Rattle.endpoint.proofs.ready.ready.Statement.{statement}

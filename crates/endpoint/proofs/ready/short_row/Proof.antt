@@ -1,3 +1,4 @@
+-- `endpoint::ready::short_row` meets its contract. Assumes nothing.
 use Rattle.endpoint.specs.Rows.{shortRow}
 use borrow.Author.Needs.{needs}
 use Rattle.laws.specs.RowsLaws.{rows}

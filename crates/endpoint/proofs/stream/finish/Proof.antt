@@ -1,3 +1,4 @@
+-- `endpoint::stream::finish` meets its contract. Assumes nothing.
 use Rattle.endpoint.specs.StreamLaws.{finished}
 use borrow.Author.Needs.{needs}
 use Rattle.endpoint.proofs.stream.finish.Statement.{statement}

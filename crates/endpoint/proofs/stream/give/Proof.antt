@@ -1,3 +1,4 @@
+-- `endpoint::stream::give` meets its contract. Assumes nothing.
 use native.Mathlib.Omega.{arith}
 use Rattle.endpoint.specs.StreamLaws.{given-fits, gave}
 use borrow.Author.Needs.{needs}

@@ -1,3 +1,4 @@
+-- `endpoint::stream::take` meets its contract. Assumes nothing.
 use Rattle.endpoint.specs.StreamLaws.{ready-ranged, took}
 use borrow.Author.Needs.{needs}
 use Rattle.endpoint.proofs.stream.take.Statement.{statement}

@@ -1,3 +1,4 @@
+-- `endpoint::table::load_common` meets its contract. Assumes nothing.
 use mathlib.Core.Path.{refl}
 use Rattle.endpoint.specs.Layout.{commonOf}
 use borrow.Author.Needs.{needs}

@@ -1,3 +1,4 @@
+-- `endpoint::table::load_scalars` meets its contract. Assumes nothing.
 use mathlib.Core.Path.{refl}
 use Rattle.endpoint.specs.Layout.{scalarsOf}
 use borrow.Author.Needs.{needs}

@@ -1,3 +1,4 @@
+-- `endpoint::table::load_sends` meets its contract. Assumes nothing.
 use mathlib.Core.Path.{refl}
 use Rattle.endpoint.specs.Layout.{sendsOf}
 use borrow.Author.Needs.{needs}

@@ -1,3 +1,4 @@
+-- `endpoint::table::save_all` meets its contract. Assumes nothing.
 use Rattle.endpoint.specs.OpeningLaws.{saved}
 use borrow.Author.Needs.{needs}
 use Rattle.endpoint.proofs.table.save_all.Statement.{statement}

@@ -1,3 +1,4 @@
+-- `endpoint::ticking::ack_first` meets its contract. Assumes nothing.
 use Rattle.endpoint.specs.TickingLaws.{ack-none, ack-one}
 use borrow.Author.Needs.{needs}
 use Rattle.endpoint.proofs.ticking.ack_first.Statement.{statement}

@@ -1,3 +1,4 @@
+-- `endpoint::ticking::acks` meets its contract. Assumes nothing.
 use Rattle.endpoint.specs.TickingLaws.{acks-one, acks-shut, acks-none}
 use borrow.Author.Needs.{needs}
 use Rattle.endpoint.proofs.ticking.acks.Statement.{statement}

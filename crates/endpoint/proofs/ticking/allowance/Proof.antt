@@ -1,3 +1,4 @@
+-- `endpoint::ticking::allowance` meets its contract. Assumes nothing.
 use Rattle.endpoint.specs.TickingLaws.{allowance-late, allowance-far, allowance-full, allowance-left}
 use borrow.Author.Needs.{needs}
 use Rattle.endpoint.proofs.ticking.allowance.Statement.{statement}

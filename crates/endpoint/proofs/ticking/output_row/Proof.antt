@@ -1,3 +1,4 @@
+-- `endpoint::ticking::output_row` meets its contract. Assumes nothing.
 use Rattle.endpoint.specs.TickingLaws.{output-short, output-fine}
 use borrow.Author.Needs.{needs}
 use Rattle.endpoint.proofs.ticking.output_row.Statement.{statement}

@@ -1,3 +1,4 @@
+-- `endpoint::ticking::plan_of` meets its contract. Assumes nothing.
 use Rattle.endpoint.specs.TickingLaws.{number-loaded, planned}
 use borrow.Author.Needs.{needs}
 use Rattle.endpoint.proofs.ticking.plan_of.Statement.{statement}

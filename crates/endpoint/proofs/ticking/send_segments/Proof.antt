@@ -1,3 +1,4 @@
+-- `endpoint::ticking::send_segments` meets its contract. Assumes nothing.
 use Rattle.endpoint.specs.Layout.{sectionsOf}
 use Rattle.endpoint.specs.TickingLaws.{send-room-at, segments-sent}
 use borrow.Author.Needs.{needs}

@@ -1,3 +1,4 @@
+-- `endpoint::ticking::tick_end` meets its contract. Assumes nothing.
 use mathlib.Core.Path.{refl}
 use native.Mathlib.Omega.{arith}
 use Rattle.endpoint.specs.TickingLaws.{ack-ready, tick-facts, from-most, send-ready, sent-few, sent-small, sent-size, bytes-most, ticked}

@@ -1,3 +1,4 @@
+-- `endpoint::ticking::write_ack` meets its contract. Assumes nothing.
 use Rattle.endpoint.specs.TickingLaws.{ack-sent}
 use Rattle.endpoint.specs.StreamLaws.{ready-ranged}
 use borrow.Author.Needs.{needs}

@@ -1,3 +1,4 @@
+-- `vectors::numbers::offer` meets its contract. Assumes nothing.
 use borrow.Author.Needs.{needs}
 use Rattle.window.specs.MarksLaws.{new-near, new-some}
 use Rattle.vectors.proofs.numbers.offer.Statement.{statement}
