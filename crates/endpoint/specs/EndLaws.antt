@@ -1,24 +1,24 @@
 -- What each call does to the parts of an end: who is concerned with two ends goes by these, and opens no definition. Assumes nothing.
-use mathlib.Core.Path.{_≡_, refl, sym, ap, _∙_}
+use mathlib.Core.Path.{_≡_, refl, sym, _∙_}
 use mathlib.Core.Bool.{not, _&&_}
 use mathlib.Core.List.{List, [], _∷_, _++_}
-use Prim.Native.Nat.{ℕ, zero, suc, _+_, _-_, _≤_, _<_, min}
+use Prim.Native.Nat.{ℕ, zero, suc, _+_, _-_, _≤_, _<_}
 use native.Mathlib.Omega.{arith}
 use lib.Dec.{eqb, ltb}
 use lib.ListN.{length, length-append}
 use borrow.Author.Tests.{eqb-true, ltb-true}
-use lib.IntN.{ℤ, pos, negsuc}
+use lib.IntN.{pos, negsuc}
 use Rattle.laws.specs.Choice.{if-case}
-use Rattle.laws.specs.Rows.{when, _orElse_}
+use Rattle.laws.specs.Rows.{_orElse_}
 use Rattle.laws.specs.RowsLaws.{row-left, row-right, passed-ne, miss-ne}
 use Rattle.wire.specs.Datagram.{ceiling, Message, DATA, ACK, PROBE, wire}
-use Rattle.wire.specs.Reading.{Decoded, refused, read, formOf, decodeAs, decode}
-use Rattle.window.specs.Window.{Window, verdictOf, acceptOf}
+use Rattle.wire.specs.Reading.{Decoded, read, formOf, decodeAs, decode}
+use Rattle.window.specs.Window.{verdictOf, acceptOf}
 use Rattle.window.specs.Window as window
 use Rattle.receiving.specs.Receiving.{Receiving, endedOf, ackPosition, ackCredit}
 use Rattle.receiving.specs.Receiving as receiving
 use Rattle.sending.specs.declared.Tick.{Tick}
-use Rattle.sending.specs.Sending.{datagramsMost, Sending}
+use Rattle.sending.specs.Sending.{Sending}
 use Rattle.sending.specs.Sending as sending
 use Rattle.sending.specs.Giving as giving
 use Rattle.sending.specs.Acking as acking

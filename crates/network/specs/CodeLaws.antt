@@ -2,7 +2,7 @@
 use mathlib.Core.Path.{_≡_, refl, sym, ap, subst, _∙_}
 use mathlib.Core.Bool.{true}
 use mathlib.Core.List.{List, [], _∷_, _++_, append-nil}
-use Prim.Native.Nat.{ℕ, zero, suc, _+_, _-_, _^_, _≤_, _<_}
+use Prim.Native.Nat.{ℕ, zero, suc, _-_, _^_, _<_}
 use native.Mathlib.Decide.{ℕ-discrete}
 use native.Mathlib.Omega.{arith}
 use lib.Dec.{eqb}
@@ -12,24 +12,24 @@ use lib.Seq.{take-append-seam}
 use Rattle.laws.specs.Choice.{if}
 use Rattle.laws.specs.Over.{over}
 use Rattle.ring.specs.Ring.{capacity}
-use Rattle.wire.specs.Datagram.{Message, encode, wire}
+use Rattle.wire.specs.Datagram.{Message, wire}
 use Rattle.wire.specs.Reading.{Decoded, refused, read, decode}
 use Rattle.wire.specs.Series.{Series, nothing}
 use Rattle.wire.specs.SeriesLaws.{series-only, series-last, wire-none, wire-next, read-whole}
 use Rattle.sending.specs.CallLaws.{In, here, there}
-use Rattle.endpoint.specs.End.{End, openOf, giveOf, givenOf, finishOf, gotOf, takeOf, reachedOf, hearAnswer, hearOf, clockOf, sentOf, tickOf, outputOf}
-use Rattle.endpoint.specs.Layout.{Sound, endOf}
+use Rattle.endpoint.specs.End.{End, giveOf, finishOf, takeOf, hearAnswer, hearOf, clockOf, sentOf, tickOf, outputOf}
+use Rattle.endpoint.specs.Layout.{Sound}
 use Rattle.endpoint.specs.Rows.{readyOf}
 use Rattle.endpoint.specs.Answer.{answerOf}
-use Rattle.endpoint.specs.Calls.{Opens, openRow, Gives, Finishes, Hears, Takes, tickRow, Ticks}
+use Rattle.endpoint.specs.Calls.{Gives, Finishes, Hears, Takes, tickRow, Ticks}
 use Rattle.endpoint.specs.EndLaws.{refuses, takes as accepts, hears as hears-end, output-is, value-is, refusal-is}
 use Rattle.endpoint.specs.EndLaws as end
-use Rattle.network.specs.World.{Entry, Site, World, opened, handed, stray, gives, finishes, takes, Act, arrives, calls, ticks, noted, hear, bytesOf, handOver, strange, arrive, call, leaving, tick, act, Choice, near-acts, far-acts, step, run}
-use Rattle.network.specs.Delivered.{numbersOf, isAck, asks, acksIn, asksIn, Every, nil, cons, Welcome, Delivered}
+use Rattle.network.specs.World.{Entry, Site, opened, handed, stray, gives, finishes, takes, Act, arrives, calls, ticks, noted, hear, bytesOf, handOver, strange, arrive, call, leaving, tick, act, Choice, near-acts, far-acts, step, run}
+use Rattle.network.specs.Delivered.{numbersOf, acksIn, asksIn, Every, nil, cons, Welcome, Delivered}
 use Rattle.network.specs.Truth.{Numbered, Forth, Back, position, grant, sink, Pair}
 use Rattle.network.specs.RunLaws.{swap, entry-read, act-pair, run-pair}
 use Rattle.network.specs.Statement.{delivered-is-true}
-use Rattle.network.specs.Code.{Lent, Desk, held, countOf, after, afterGive, afterFinish, afterHear, afterTake, afterTick, Handed, own, other, Does, Begins, opens, CodeRun, begin, near, far, numberIn, ackIn, askIn, numbersAmong, acksAmong, asksAmong, CodeDelivered, CodeBothWays}
+use Rattle.network.specs.Code.{Desk, held, countOf, after, afterGive, afterFinish, afterHear, afterTake, afterTick, Handed, own, other, Does, Begins, opens, CodeRun, begin, near, far, numberIn, ackIn, askIn, numbersAmong, acksAmong, asksAmong, CodeDelivered, CodeBothWays}
 use Rattle.network.specs.Code.Does.{gives as gave, finishes as finished, hears as heard, takes as took, ticks as ticked}
 
 -- ANSWERS
@@ -54,23 +54,23 @@ value-zero zero q p = refl
 value-zero (suc k) q p = let z : negsuc (suc k - 1) ≡ pos 0 = sym (refusal-is (suc k) 0 (λ e. omega arith)) ∙ sym q ∙ p ∙ value-is 0 in let y : _≡_ {A = ℕ} 0 1 = cc in absurd (omega arith)
 
 -- A DESK AND A SITE that are at the same point of a run
-unfoldable allBytes : ℕ → List Entry → List (List ℕ)
+unfoldable pub allBytes : ℕ → List Entry → List (List ℕ)
 allBytes epoch [] = []
 allBytes epoch (d ∷ ds) = bytesOf epoch d ∷ allBytes epoch ds
 
-data Decodes : List (List ℕ) → List Entry → Type 0 where
+pub data Decodes : List (List ℕ) → List Entry → Type 0 where
   none : Decodes [] []
   more : {epoch : ℕ} {d : List ℕ} {e : Entry} {ds : List (List ℕ)} {es : List Entry} → decode d ≡ read epoch (e .number) (e .message) → Decodes ds es → Decodes (d ∷ ds) (e ∷ es)
 
-record Matches (epoch : ℕ) (x : Desk) (s : Site) : Type 0 where
-  sound : Sound (x .lent .table) (x .lent .outgoing) (x .lent .incoming) (x .lent .marks)
-  end : held x ≡ s .end
-  given : x .given ≡ s .given
-  finished : x .finished ≡ s .finished
-  taken : x .taken ≡ s .taken
-  reported : x .reported ≡ s .reported
-  sent : x .sent ≡ allBytes epoch (s .sent)
-  accepted : Decodes (x .accepted) (s .accepted)
+pub record Matches (epoch : ℕ) (x : Desk) (s : Site) : Type 0 where
+  pub sound : Sound (x .lent .table) (x .lent .outgoing) (x .lent .incoming) (x .lent .marks)
+  pub end : held x ≡ s .end
+  pub given : x .given ≡ s .given
+  pub finished : x .finished ≡ s .finished
+  pub taken : x .taken ≡ s .taken
+  pub reported : x .reported ≡ s .reported
+  pub sent : x .sent ≡ allBytes epoch (s .sent)
+  pub accepted : Decodes (x .accepted) (s .accepted)
 
 -- s, in the company of u, has come to a site
 data Reaches (s u : Site) : Site → Type 0 where
@@ -366,12 +366,12 @@ follow e p v w (heard h k) = follow-hear v w (p .there .epoch-is) h k
 follow {u = u} e p v w (took k) = follow-take u v k
 follow e p v w (ticked k a) = follow-tick e p v k a
 
-record Follows (epoch : ℕ) (x y : Desk) : Type 0 where
-  r : ℕ
-  s : ℕ
-  choices : List Choice
-  near-matches : Matches epoch x (run epoch r s choices .near)
-  far-matches : Matches epoch y (run epoch r s choices .far)
+pub record Follows (epoch : ℕ) (x y : Desk) : Type 0 where
+  pub r : ℕ
+  pub s : ℕ
+  pub choices : List Choice
+  pub near-matches : Matches epoch x (run epoch r s choices .near)
+  pub far-matches : Matches epoch y (run epoch r s choices .far)
 
 begin-matches : {epoch : ℕ} {x : Desk} → Begins epoch x → (interval : ℕ) × Matches epoch x (opened epoch interval)
 unfolding opened allBytes
@@ -393,7 +393,8 @@ unfolding run step
 far-reaches r s cs stays m w = record { r = r; s = s; choices = cs; near-matches = m; far-matches = w }
 far-reaches r s cs (acts a) m w = record { r = r; s = s; choices = far-acts a ∷ cs; near-matches = m; far-matches = w }
 
-follows : {epoch : ℕ} {x y : Desk} → epoch < 2 ^ 64 → CodeRun epoch x y → Follows epoch x y
+-- each run of the code is one of the model
+pub follows : {epoch : ℕ} {x y : Desk} → epoch < 2 ^ 64 → CodeRun epoch x y → Follows epoch x y
 unfolding run
 follows e (begin a b) =
     let k = begin-matches a in

@@ -1,13 +1,12 @@
 -- Bytes are a series of datagrams in one way only, and what leaves is a series. Assumes nothing.
 use mathlib.Core.Path.{_≡_, refl, sym, ap, _∙_}
 use mathlib.Core.List.{List, [], _∷_, _++_, append-nil, append-assoc}
-use Prim.Native.Nat.{ℕ, _+_, _≤_, _<_}
+use Prim.Native.Nat.{ℕ, _+_, _≤_}
 use native.Mathlib.Omega.{arith}
-use lib.ListN.{length, take, drop, getD, length-append, List·getD-append}
+use lib.ListN.{length, take, drop, length-append, List·getD-append}
 use lib.Seq.{take-at, drop-at}
-use Rattle.wire.specs.declared.Header.{Header}
 use Rattle.wire.specs.Datagram.{headSize, Message, encode, wire}
-use Rattle.wire.specs.Reading.{num, fieldsOf, read, decode}
+use Rattle.wire.specs.Reading.{fieldsOf, read, decode}
 use Rattle.wire.specs.ReadingLaws.{num-same}
 use Rattle.wire.specs.RoundTripLaws.{decode-was}
 use Rattle.wire.specs.Series.{Series, nothing, first}
