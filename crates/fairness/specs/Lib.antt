@@ -1,0 +1,6 @@
+pub mod Count
+pub mod CountLaws
+pub mod Bounds
+pub mod Table
+pub mod Turns
+pub mod TurnsLaws
