@@ -4,3 +4,5 @@ pub mod Bounds
 pub mod Table
 pub mod Turns
 pub mod TurnsLaws
+pub mod Timed
+pub mod TimedLaws
