@@ -6,3 +6,5 @@ pub mod Turns
 pub mod TurnsLaws
 pub mod Timed
 pub mod TimedLaws
+pub mod Networks
+pub mod SideLaws
