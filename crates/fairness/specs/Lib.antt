@@ -8,3 +8,4 @@ pub mod Timed
 pub mod TimedLaws
 pub mod Networks
 pub mod SideLaws
+pub mod StateLaws
