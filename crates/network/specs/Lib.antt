@@ -8,3 +8,4 @@ pub mod TmpEnd
 pub mod Truth
 pub mod FlowLaws
 pub mod RunLaws
+pub mod Statement
