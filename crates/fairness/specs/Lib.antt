@@ -9,3 +9,4 @@ pub mod TimedLaws
 pub mod Networks
 pub mod SideLaws
 pub mod StateLaws
+pub mod OldestLaws

@@ -57,7 +57,7 @@ unfolding readyAt
 works-at σ d n = works-ready (siteAt σ d n) (siteAt σ (other d) n) (arrivalsOf d (σ .round n)) (callsOf d (σ .round n))
 
 -- THE TICK
-pub work : End → Tick
+unfoldable pub work : End → Tick
 work e = record { now = clockOf e; every = e .interval; allowed = allowanceOf e - length (ackOf e) }
 
 pub record Ticks (x z : Site) : Type 0 where
@@ -161,7 +161,7 @@ pub number-up : (σ : Plan) (d : Side) (n m : ℕ) → n ≤ m → endAt σ d n 
 number-up σ d = grows (λ n. endAt σ d n .number) (λ n. omega (arith, number-next σ d n))
 
 pub number-few : (σ : Plan) (d : Side) (n k : ℕ) → endAt σ d (n + k) .number ≤ endAt σ d n .number + 32 * k
-number-few σ d n zero = rw add-zero (omega arith)
+number-few σ d n zero = let e : n + 0 ≡ n = omega arith in rw e (omega arith)
 number-few σ d n (suc k) = rw add-suc (omega (arith, number-few σ d n k, number-next σ d (n + k), sent-few (readyAt σ d (n + k) .end)))
 
 -- THE SENDING SIDE
@@ -212,10 +212,10 @@ pub next-up : (σ : Plan) (d : Side) (n m : ℕ) → n ≤ m → endAt σ d n .s
 next-up σ d = grows (λ n. endAt σ d n .sending .next) (λ n. omega (arith, ready-next σ d n .next, moves-next (works-at σ d n .sending) (orderly-at σ d n)))
 
 -- THE RECEIVING SIDE: the position that an ACK says, and how far it grants
-pub positionAt : Plan → Side → ℕ → ℕ
+unfoldable pub positionAt : Plan → Side → ℕ → ℕ
 positionAt σ d n = ackPosition (endAt σ d n .receiving)
 
-pub grantAt : Plan → Side → ℕ → ℕ
+unfoldable pub grantAt : Plan → Side → ℕ → ℕ
 grantAt σ d n = ackPosition (endAt σ d n .receiving) + ackCredit (endAt σ d n .receiving)
 
 pub position-up : (σ : Plan) (d : Side) (n m : ℕ) → n ≤ m → positionAt σ d n ≤ positionAt σ d m
