@@ -10,3 +10,4 @@ pub mod Networks
 pub mod SideLaws
 pub mod StateLaws
 pub mod OldestLaws
+pub mod TakenLaws

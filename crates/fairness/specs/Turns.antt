@@ -12,7 +12,7 @@ pub record Comes (answers here : ℕ → ℕ) (b k j : ℕ) : Type 0 where
   pub answered : 1 ≤ answers tick
 
 -- `here n`: what the peer has when n ticks are over; `known n`: what the sender then knows that it has. From tick t on, in a run of T ticks
-pub record Turns (sent answers here known : ℕ → ℕ) (come back : ℕ → ℕ → Type 0) (R t b T : ℕ) : Type 0 where
+pub record Turns (sent answers here known : ℕ → ℕ) (come back : ℕ → ℕ → Type 0) (R D t b T : ℕ) : Type 0 where
   -- neither ever falls, and what is known is so
   pub here-up : (n m : ℕ) → n ≤ m → m ≤ T → here n ≤ here m
   pub known-up : (n m : ℕ) → n ≤ m → m ≤ T → known n ≤ known m
@@ -22,6 +22,6 @@ pub record Turns (sent answers here known : ℕ → ℕ) (come back : ℕ → �
   pub once : (n : ℕ) → sent n ≤ 1
   pub answers-once : (n : ℕ) → answers n ≤ 1
   -- what comes is taken and answered
-  pub comes : (k j : ℕ) → t ≤ k → k < j → j < T → come k j → known (suc k) < b → Comes answers here b k j
+  pub comes : (k j : ℕ) → t ≤ k → k < j → j ≤ k + D → j < T → come k j → known (suc k) < b → Comes answers here b k j
   -- an answer that comes makes it known
-  pub told : (k j : ℕ) → t ≤ k → k < j → j < T → back k j → b ≤ here (suc k) → b ≤ known (suc j)
+  pub told : (k j : ℕ) → t ≤ k → k < j → j ≤ k + D → j < T → back k j → b ≤ here (suc k) → b ≤ known (suc j)

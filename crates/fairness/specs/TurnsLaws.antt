@@ -17,17 +17,17 @@ record Turn (answers here : ℕ → ℕ) (b n m : ℕ) : Type 0 where
   answered : 1 ≤ answers tick
 
 -- each L * R + D ticks have one, as long as it is not known
-turn : {sent answers here known : ℕ → ℕ} {come back : ℕ → ℕ → Type 0} {R t b T L D : ℕ} → Turns sent answers here known come back R t b T → Fair sent come L D T
+turn : {sent answers here known : ℕ → ℕ} {come back : ℕ → ℕ → Type 0} {R t b T L D : ℕ} → Turns sent answers here known come back R D t b T → Fair sent come L D T
     → (n : ℕ) → t ≤ n → n + inHand L D R ≤ T → known (n + L * R) < b → Turn answers here b n (inHand L D R)
 turn {sent} {answers} {here} {known} {R = R} {t} {b} {T} {L} {D} v f n from h less =
     let row = many sent n R L (λ u a k. v .tries u (omega arith) (omega arith) (omega (arith, v .known-up (u + R) (n + L * R) (omega arith) (omega arith)))) in
     let a = fair-row f (v .once) n (L * R) row (omega arith) in
     let low : known (suc (a .sent)) < b = omega (arith, v .known-up (suc (a .sent)) (n + L * R) (omega (arith, a .below)) (omega arith)) in
-    let c = v .comes (a .sent) (a .come) (omega (arith, a .from)) (a .after) (omega (arith, a .within, a .below)) (a .arrived) low in
+    let c = v .comes (a .sent) (a .come) (omega (arith, a .from)) (a .after) (a .within) (omega (arith, a .within, a .below)) (a .arrived) low in
     record { tick = c .tick; from = omega (arith, c .after, a .from); below = omega (arith, c .by, a .within, a .below); there = c .there; answered = c .answered }
 
 -- IN HAND: by t + L * R + D
-pub in-hand : {sent answers here known : ℕ → ℕ} {come back : ℕ → ℕ → Type 0} {R t b T L D : ℕ} → Turns sent answers here known come back R t b T → Fair sent come L D T
+pub in-hand : {sent answers here known : ℕ → ℕ} {come back : ℕ → ℕ → Type 0} {R t b T L D : ℕ} → Turns sent answers here known come back R D t b T → Fair sent come L D T
     → t + inHand L D R ≤ T → b ≤ here (t + inHand L D R)
 in-hand {here = here} {known} {R = R} {t} {b} {T} {L} {D} v f h = go (decLe b (known (t + L * R)))
   where
@@ -38,7 +38,7 @@ in-hand {here = here} {known} {R = R} {t} {b} {T} {L} {D} v f h = go (decLe b (k
         omega (arith, c .there, v .here-up (suc (c .tick)) (t + inHand L D R) (omega (arith, c .below)) h)
 
 -- L turns, one after the other: L answers in a row from the first turn on
-answers-row : {sent answers here known : ℕ → ℕ} {come back : ℕ → ℕ → Type 0} {R t b T D : ℕ} (m : ℕ) → Turns sent answers here known come back R t b T → Fair sent come (suc m) D T
+answers-row : {sent answers here known : ℕ → ℕ} {come back : ℕ → ℕ → Type 0} {R t b T D : ℕ} (m : ℕ) → Turns sent answers here known come back R D t b T → Fair sent come (suc m) D T
     → (i : ℕ) → t ≤ i → 1 ≤ answers i → suc i + m * inHand (suc m) D R ≤ T → known (suc i + m * inHand (suc m) D R) < b
     → suc m ≤ count answers i (1 + m * inHand (suc m) D R)
 answers-row {sent} {answers} {here} {known} {R = R} {t} {b} {T} {D} m v f i from h l less =
@@ -50,7 +50,7 @@ answers-row {sent} {answers} {here} {known} {R = R} {t} {b} {T} {D} m v f i from
     one answers u (c .tick) W (c .from) (c .below) (c .answered)) in
     rw (count-add answers i 1 (m * W)) (omega (arith, one answers i i 1 (omega arith) (omega arith) h, later))
 
-after-turns : {sent answers here known : ℕ → ℕ} {come back : ℕ → ℕ → Type 0} {R t b T D : ℕ} (m : ℕ) → Turns sent answers here known come back R t b T → Fair sent come (suc m) D T
+after-turns : {sent answers here known : ℕ → ℕ} {come back : ℕ → ℕ → Type 0} {R t b T D : ℕ} (m : ℕ) → Turns sent answers here known come back R D t b T → Fair sent come (suc m) D T
     → Fair answers back (suc m) D T
     → t + acknowledged (suc m) D R ≤ T → b ≤ known (t + acknowledged (suc m) D R)
 after-turns {sent} {answers} {here} {known} {R = R} {t} {b} {T} {D} m v f g h =
@@ -73,11 +73,11 @@ after-turns {sent} {answers} {here} {known} {R = R} {t} {b} {T} {D} m v f g h =
         let a = fair-row g (v .answers-once) i (1 + m * W) row (omega (arith, c .below)) in
         let last : suc (a .come) ≤ t + acknowledged (suc m) D R = omega (arith, c .below, a .below, a .within) in
         let seen : b ≤ here (suc (a .sent)) = omega (arith, c .there, v .here-up (suc i) (suc (a .sent)) (omega (arith, a .from)) (omega (arith, a .after))) in
-        let done = v .told (a .sent) (a .come) (omega (arith, c .from, a .from)) (a .after) (omega arith) (a .arrived) seen in
+        let done = v .told (a .sent) (a .come) (omega (arith, c .from, a .from)) (a .after) (a .within) (omega arith) (a .arrived) seen in
         omega (arith, v .known-up (suc (a .come)) (t + acknowledged (suc m) D R) last h)
 
 -- ACKNOWLEDGED: by t + L * L * R + (L + 1) * D
-pub acknowledged-by : {sent answers here known : ℕ → ℕ} {come back : ℕ → ℕ → Type 0} {R t b T L D : ℕ} → 1 ≤ L → Turns sent answers here known come back R t b T
+pub acknowledged-by : {sent answers here known : ℕ → ℕ} {come back : ℕ → ℕ → Type 0} {R t b T L D : ℕ} → 1 ≤ L → Turns sent answers here known come back R D t b T
     → Fair sent come L D T
     → Fair answers back L D T
     → t + acknowledged L D R ≤ T

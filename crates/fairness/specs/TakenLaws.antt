@@ -1,0 +1,231 @@
+-- Who accepts a number, and when: a datagram that is handed over within 32 ticks of its sending has been accepted by then, once. Assumes nothing.
+use mathlib.Core.Path.{_≡_, refl, ap, sym, _∙_}
+use mathlib.Core.Bool.{Bool, true, false, not}
+use mathlib.Core.Logic.{⊎-elim}
+use mathlib.Core.List.{List, [], _∷_, _++_, List·Memᴰ, List·Memᴰ·head, List·Memᴰ·tail, List·Memᴰ·cases-cons, List·Memᴰ·not-nil}
+use Prim.Native.Nat.{ℕ, zero, suc, _+_, _-_, _*_, _^_, _≤_, _<_}
+use native.Mathlib.Nat.{add-zero, add-suc}
+use native.Mathlib.Decide.{ℕ-discrete, decLe}
+use native.Mathlib.Omega.{arith}
+use lib.Dec.{eqb}
+use lib.ListN.{length}
+use borrow.Author.Tests.{eqb-true, eq-eqb, ne-eqb}
+use Rattle.laws.specs.Choice.{if, if-case}
+use Rattle.wire.specs.Datagram.{ceiling, Message, DATA, ACK, PROBE}
+use Rattle.wire.specs.Reading.{Decoded, refused, read, decode}
+use Rattle.window.specs.Window.{width, Window, verdictOf}
+use Rattle.window.specs.History.{Reached}
+use Rattle.window.specs.HistoryLaws.{still-new, high-reached}
+use Rattle.sending.specs.CallLaws.{In, here, there}
+use Rattle.endpoint.specs.End.{End, openOf, hearAnswer, hearOf, sentOf}
+use Rattle.network.specs.World.{Entry, Site, World, opened, Arrival, handed, stray, Call, gives, finishes, takes, arrives, calls, noted, hear, bytesOf, handOver, strange, arrive, call, leaving, tick, act, run}
+use Rattle.network.specs.Rounds.{allChoices, play}
+use Rattle.network.specs.Delivered.{numbersOf, Every, nil, cons}
+use Rattle.network.specs.Truth.{sink, position, grant, Forth, Back, back, a-data, a-probe, Flow, Numbered, Own, Pair}
+use Rattle.network.specs.FlowLaws.{data-placed, ack-placed}
+use Rattle.network.specs.TmpEnd.{Accepts, Hears, hears, Placed, placed-data, placed-ack, placed-probe, answer-number}
+use Rattle.network.specs.TmpEnd.Hears.{refuses, takes as accepts}
+use Rattle.network.specs.RunLaws.{swap, Honest, entry-read, act-pair, run-pair}
+use Rattle.fairness.specs.Timed.{Plan, roundsOf, at, Side, the-near, the-far, other, arrivalsOf, callsOf, siteAt, endAt}
+use Rattle.fairness.specs.Networks.{sentIn, Stands, first, later, Going}
+use Rattle.fairness.specs.TimedLaws.{heard, called, ready, readyAt}
+use Rattle.fairness.specs.SideLaws.{Works, works-same, works-then, works-heard, works-arrive, works-called}
+use Rattle.fairness.specs.OldestLaws.{in-left, in-right}
+use Rattle.fairness.specs.StateLaws.{site-start, end-start, sent-in, sent-next, ticks-at, stays-ready, epoch-at, number-next, number-up, number-few, works-at}
+
+-- BOTH ENDS, at every moment of a tick
+pub pair-at : (σ : Plan) (d : Side) (n : ℕ) → σ .epoch < 2 ^ 64 → Pair (σ .epoch) (siteAt σ d n) (siteAt σ (other d) n)
+unfolding siteAt at play
+pair-at σ the-near n e = run-pair (σ .epoch) (σ .near) (σ .far) e (allChoices (roundsOf σ n))
+pair-at σ the-far n e = swap (run-pair (σ .epoch) (σ .near) (σ .far) e (allChoices (roundsOf σ n)))
+
+arrive-pair : {epoch : ℕ} {x y : Site} (a : Arrival) → epoch < 2 ^ 64 → Pair epoch x y → Pair epoch (arrive x y a) y
+unfolding act
+arrive-pair a e v = act-pair (arrives a) e v
+
+pub heard-pair : {epoch : ℕ} {x y : Site} (xs : List Arrival) → epoch < 2 ^ 64 → Pair epoch x y → Pair epoch (heard x y xs) y
+unfolding heard
+heard-pair [] e v = v
+heard-pair (a ∷ xs) e v = arrive-pair a e (heard-pair xs e v)
+
+call-pair : {epoch : ℕ} {x y : Site} (c : Call) → epoch < 2 ^ 64 → Pair epoch x y → Pair epoch (call x c) y
+unfolding act
+call-pair c e v = act-pair (calls c) e v
+
+called-pair : {epoch : ℕ} {x y : Site} (cs : List Call) → epoch < 2 ^ 64 → Pair epoch x y → Pair epoch (called x cs) y
+unfolding called
+called-pair [] e v = v
+called-pair (c ∷ cs) e v = call-pair c e (called-pair cs e v)
+
+pub ready-pair : (σ : Plan) (d : Side) (n : ℕ) → σ .epoch < 2 ^ 64 → Pair (σ .epoch) (readyAt σ d n) (siteAt σ (other d) n)
+unfolding readyAt ready
+ready-pair σ d n e = called-pair (callsOf d (σ .round n)) e (heard-pair (arrivalsOf d (σ .round n)) e (pair-at σ d n e))
+
+-- NUMBERS OF WHAT WAS SENT: one after the other, the newest first
+pub data Row : ℕ → List Entry → Type 0 where
+  no-row : Row 0 []
+  one-row : {n : ℕ} {d : Entry} {ds : List Entry} → d .number ≡ suc n → Row n ds → Row (suc n) (d ∷ ds)
+
+row-leaving : (t n : ℕ) (ms : List Message) {ds : List Entry} → Row n ds → Row (n + length ms) (leaving t n ms ++ ds)
+unfolding leaving
+row-leaving t n [] r = rw add-zero r
+row-leaving t n (m ∷ ms) {ds} r =
+    let e : n + length (m ∷ ms) ≡ suc (n + length ms) = add-suc n (length ms) in
+    let f : n + length ms + 1 ≡ suc (n + length ms) = omega arith in
+    rw e (one-row {n = n + length ms} {d = record { tick = t; number = n + length ms + 1; message = m }} f (row-leaving t n ms r))
+
+pub row-at : (σ : Plan) (d : Side) (n : ℕ) → Row (endAt σ d n .number) (siteAt σ d n .sent)
+unfolding opened openOf
+row-at σ d zero = rw (site-start σ d, end-start σ d) no-row
+row-at σ d (suc n) = rw (number-next σ d n, sent-next σ d n, sent-in σ d n) (row-leaving _ (endAt σ d n .number) (sentOf (readyAt σ d n .end)) (row-at σ d n))
+
+row-below : {n : ℕ} {d : Entry} {ds : List Entry} → Row n ds → In d ds → d .number ≤ n
+row-below (one-row e r) here = omega arith
+row-below (one-row e r) (there i) = let k = row-below r i in omega arith
+
+-- a number is one datagram's
+pub row-same : {n : ℕ} {d e : Entry} {ds : List Entry} → Row n ds → In d ds → In e ds → d .number ≡ e .number → d ≡ e
+row-same r here here q = refl
+row-same (one-row {n} {d} f r) here (there {y} i) q = let k = row-below r i in absurd (omega arith)
+row-same (one-row f r) (there i) here q = let k = row-below r i in absurd (omega arith)
+row-same (one-row f r) (there i) (there j) q = row-same r i j q
+
+in-none : {A : Type 0} {x : A} → In x [] → ⊥
+in-none i = elim i [ ]
+
+record Between (n m k : ℕ) : Type 0 where
+  above : n < k
+  most : k ≤ m
+
+in-leaving : (t n : ℕ) (ms : List Message) {d : Entry} → In d (leaving t n ms) → Between n (n + length ms) (d .number)
+unfolding leaving
+in-leaving t n [] i = absurd (in-none i)
+in-leaving t n (m ∷ ms) here = record { above = omega arith; most = omega arith }
+in-leaving t n (m ∷ ms) (there i) = let k = in-leaving t n ms i in record { above = k .above; most = omega (arith, k .most) }
+
+-- what was sent in tick k is above all that was sent before, and is there from then on
+pub sent-above : (σ : Plan) (d : Side) (k : ℕ) {e : Entry} → In e (sentIn σ d k) → endAt σ d k .number < e .number
+sent-above σ d k i = in-leaving _ _ (sentOf (readyAt σ d k .end)) (rw (sent-in σ d k) at i) .above
+
+pub sent-stays : (σ : Plan) (d : Side) (k n : ℕ) {e : Entry} → In e (sentIn σ d k) → k < n → In e (siteAt σ d n .sent)
+sent-stays σ d k n {e} i h = let q : suc k + (n - suc k) ≡ n = omega arith in rw q at (go (n - suc k))
+  where
+    go : (m : ℕ) → In e (siteAt σ d (suc k + m) .sent)
+    go zero = rw (add-zero, sent-next σ d k) (in-left (siteAt σ d k .sent) i)
+    go (suc m) = rw (add-suc, sent-next σ d (suc k + m)) (in-right (sentIn σ d (suc k + m)) (go m))
+
+-- NUMBERS THAT WERE ACCEPTED: 1 where p is among them
+unfoldable pub has : ℕ → List Entry → ℕ
+has p [] = 0
+has p (d ∷ ds) = if (eqb (d .number) p) 1 (has p ds)
+
+has-one : (p : ℕ) (ds : List Entry) → has p ds ≤ 1
+unfolding has
+has-one p [] = omega arith
+has-one p (d ∷ ds) = if-case (λ (n : ℕ). n ≤ 1) (eqb (d .number) p) (λ e. omega arith) (λ e. has-one p ds)
+
+has-in : (p : ℕ) (ds : List Entry) → List·Memᴰ p (numbersOf ds) → has p ds ≡ 1
+unfolding has numbersOf
+has-in p [] i = absurd (List·Memᴰ·not-nil i)
+has-in p (d ∷ ds) i = if-case (λ (n : ℕ). n ≡ 1) (eqb (d .number) p) (λ e. refl)
+    (λ e. ⊎-elim (λ q. let z : eqb (d .number) p ≡ true = eq-eqb (d .number) p (sym q) in let y : _≡_ {A = ℕ} 0 1 = cc in absurd (omega arith)) (λ j. has-in p ds j) (List·Memᴰ·cases-cons i))
+
+-- WHAT ONE ARRIVAL DOES to the number p: nothing, or it is accepted
+pub data Event (x y : Site) (p : ℕ) (z : Site) : Type 0 where
+  quiet : has p (z .accepted) ≡ has p (x .accepted) → Event x y p z
+  event : {d : Entry} → In d (y .sent) → d .number ≡ p → has p (z .accepted) ≡ 1 → Accepts (x .end) p (d .message) (z .end) → Event x y p z
+
+-- a datagram of this epoch that y has sent
+record From (y : Site) (number : ℕ) (m : Message) : Type 0 where
+  entry : Entry
+  sent : In entry (y .sent)
+  number-is : entry .number ≡ number
+  message-is : entry .message ≡ m
+
+abbrev heardAs : Site → Decoded → ℕ → End → Site
+heardAs x D r f = record {
+  end = f;
+  given = x .given;
+  finished = x .finished;
+  taken = x .taken;
+  reported = x .reported;
+  sent = x .sent;
+  accepted = noted r (x .end .clock) D ++ x .accepted;
+}
+
+accepts-as : {e f : End} {p q : ℕ} {m k : Message} → q ≡ p → k ≡ m → Accepts e q m f → Accepts e p k f
+accepts-as a b h = rw b (rw a at h)
+
+hears-event : {x y : Site} (p : ℕ) {D : Decoded} {r : ℕ} {f : End} → Hears (x .end) D r f → ((number : ℕ) (m : Message) → D ≡ read (x .end .epoch) number m → From y number m)
+    → Event x y p (heardAs x D r f)
+unfolding noted has
+hears-event p refuses h = quiet refl
+hears-event {x} {y} p (accepts {number} {m} {f} z a) h = go (ℕ-discrete number p)
+  where
+    go : Dec (number ≡ p) → Event x y p (heardAs x (read (x .end .epoch) number m) 0 f)
+    go (yes q) =
+        let k = h number m refl in
+        event (k .sent) (k .number-is ∙ q) (rw (eq-eqb number p q)) (accepts-as q (k .message-is) a)
+    go (no q) = quiet (rw (ne-eqb number p q))
+
+hear-event : {x y : Site} (p : ℕ) (d : List ℕ) → ((number : ℕ) (m : Message) → decode d ≡ read (x .end .epoch) number m → From y number m) → Event x y p (hear x d)
+unfolding hear
+hear-event {x} p d h = hears-event p (hears (x .end) d) h
+
+every-in : {P : Entry → Type 0} {d : Entry} {ds : List Entry} → Every P ds → In d ds → P d
+every-in (cons p a) here = p
+every-in (cons p a) (there i) = every-in a i
+
+pub stands-in : {A : Type 0} {x : A} {xs : List A} {i : ℕ} → Stands x xs i → In x xs
+stands-in first = here
+stands-in (later s) = there (stands-in s)
+
+-- what y has sent is honest, and is read as it was sent
+pub honest : {epoch : ℕ} {x y : Site} {d : Entry} → Pair epoch x y → In d (y .sent) → Honest y (d .message)
+honest v i = record { forth = every-in (v .back .sent) i; back = every-in (v .out .acks) i }
+
+reads : {epoch : ℕ} {x y : Site} {d : Entry} → epoch < 2 ^ 64 → Pair epoch x y → In d (y .sent) → decode (bytesOf (y .end .epoch) d) ≡ read (x .end .epoch) (d .number) (d .message)
+reads {epoch} {x} {y} {d} e v i =
+    ap (λ (o : ℕ). decode (bytesOf o d)) (v .there .epoch-is) ∙ entry-read d e v (every-in (v .there .numbered) i) (honest v i) ∙ ap (λ (o : ℕ). read o (d .number) (d .message)) (sym (v .here .epoch-is))
+
+entry-event : {epoch : ℕ} {x y : Site} {d : Entry} (p : ℕ) → epoch < 2 ^ 64 → Pair epoch x y → In d (y .sent) → Event x y p (hear x (bytesOf (y .end .epoch) d))
+entry-event {x = x} {y} {d} p e v i =
+    hear-event p (bytesOf (y .end .epoch) d) (λ number m q. let r = reads e v i in record { entry = d; sent = i; number-is = cc; message-is = cc })
+
+-- the i-th of those that were sent, or none
+data Handed (x : Site) (o : ℕ) (ds : List Entry) (z : Site) : Type 0 where
+  nothing : z ≡ x → Handed x o ds z
+  something : {d : Entry} → In d ds → z ≡ hear x (bytesOf o d) → Handed x o ds z
+
+handed-is : (x : Site) (o : ℕ) (ds : List Entry) (i : ℕ) → Handed x o ds (handOver x o ds i)
+unfolding handOver
+handed-is x o [] i = nothing refl
+handed-is x o (d ∷ ds) zero = something here refl
+handed-is x o (d ∷ ds) (suc i) = go (handed-is x o ds i)
+  where
+    go : {z : Site} → Handed x o ds z → Handed x o (d ∷ ds) z
+    go (nothing q) = nothing q
+    go (something i q) = something (there i) q
+
+strange-not : (epoch : ℕ) (D : Decoded) (number : ℕ) (m : Message) → strange epoch D ≡ true → D ≡ read epoch number m → ⊥
+unfolding strange
+strange-not epoch D number m s q =
+    let t : not (eqb epoch epoch) ≡ true = rw q at s in
+    absurd (let u : false ≡ true = rw (eq-eqb epoch epoch refl) at t in let z : _≡_ {A = ℕ} 0 1 = cc in omega arith)
+
+event-is : {x y z u : Site} {p : ℕ} → z ≡ u → Event x y p u → Event x y p z
+event-is q h = rw q h
+
+pub arrive-event : {epoch : ℕ} {x y : Site} (p : ℕ) (a : Arrival) → epoch < 2 ^ 64 → Pair epoch x y → Event x y p (arrive x y a)
+unfolding arrive
+arrive-event {x = x} {y} p (handed i) e v = go (handed-is x (y .end .epoch) (y .sent) i)
+  where
+    go : {z : Site} → Handed x (y .end .epoch) (y .sent) z → Event x y p z
+    go (nothing q) = event-is q (quiet refl)
+    go (something j q) = event-is q (entry-event p e v j)
+arrive-event {x = x} {y} p (stray d) e v =
+    if-case (λ (z : Site). Event x y p z) (strange (y .end .epoch) (decode d))
+    (λ t.
+    hear-event p d
+    (λ number m q. absurd (strange-not (y .end .epoch) (decode d) number m t (let s : x .end .epoch ≡ y .end .epoch = v .here .epoch-is ∙ sym (v .there .epoch-is) in rw s at q))))
+    (λ t. quiet refl)
