@@ -28,7 +28,7 @@ use Rattle.network.specs.TmpEnd.Hears.{refuses, takes as accepts}
 use Rattle.network.specs.RunLaws.{swap, Honest, entry-read, act-pair, run-pair}
 use Rattle.fairness.specs.Timed.{Plan, roundsOf, at, Side, the-near, the-far, other, arrivalsOf, callsOf, siteAt, endAt}
 use Rattle.fairness.specs.Networks.{sentIn, Stands, first, later, Going}
-use Rattle.fairness.specs.TimedLaws.{heard, called, ready, readyAt}
+use Rattle.fairness.specs.TimedLaws.{twice, heard, called, ready, readyAt}
 use Rattle.fairness.specs.SideLaws.{Works, works-same, works-then, works-heard, works-arrive, works-called}
 use Rattle.fairness.specs.OldestLaws.{in-left, in-right}
 use Rattle.fairness.specs.StateLaws.{site-start, end-start, sent-in, sent-next, ticks-at, stays-ready, epoch-at, number-next, number-up, number-few, works-at}
@@ -229,3 +229,132 @@ arrive-event {x = x} {y} p (stray d) e v =
     hear-event p d
     (λ number m q. absurd (strange-not (y .end .epoch) (decode d) number m t (let s : x .end .epoch ≡ y .end .epoch = v .here .epoch-is ∙ sym (v .there .epoch-is) in rw s at q))))
     (λ t. quiet refl)
+
+-- accepted numbers stay accepted
+has-up : {epoch : ℕ} {x y : Site} (p : ℕ) (a : Arrival) → epoch < 2 ^ 64 → Pair epoch x y → has p (x .accepted) ≤ has p (arrive x y a .accepted)
+has-up {x = x} {y} p a e v = go (arrive-event p a e v)
+  where
+    go : {z : Site} → Event x y p z → has p (x .accepted) ≤ has p (z .accepted)
+    go (quiet q) = omega arith
+    go (event i q h k) = omega (arith, has-one p (x .accepted))
+
+-- and are numbers of what was sent
+pub record Under (x : Site) (n : ℕ) : Type 0 where
+  pub most : (p : ℕ) → has p (x .accepted) ≡ 1 → p ≤ n
+
+arrive-under : {epoch : ℕ} {x y : Site} (a : Arrival) → epoch < 2 ^ 64 → Pair epoch x y → Under x (y .end .number) → Under (arrive x y a) (y .end .number)
+arrive-under {x = x} {y} a e v u = record { most = λ p. go p (arrive-event p a e v) }
+  where
+    go : (p : ℕ) {z : Site} → Event x y p z → has p (z .accepted) ≡ 1 → p ≤ y .end .number
+    go p (quiet q) h = u .most p (sym q ∙ h)
+    go p (event {d} i q _ k) h = omega (arith, every-in (v .there .numbered) i .most)
+
+pub heard-under : {epoch : ℕ} {x y : Site} (xs : List Arrival) → epoch < 2 ^ 64 → Pair epoch x y → Under x (y .end .number) → Under (heard x y xs) (y .end .number)
+unfolding heard
+heard-under [] e v u = u
+heard-under (a ∷ xs) e v u = arrive-under a e (heard-pair xs e v) (heard-under xs e v u)
+
+call-accepted : (x : Site) (c : Call) → call x c .accepted ≡ x .accepted
+unfolding call
+call-accepted x (gives bs) = refl
+call-accepted x finishes = refl
+call-accepted x (takes n) = refl
+
+called-accepted : (x : Site) (cs : List Call) → called x cs .accepted ≡ x .accepted
+unfolding called
+called-accepted x [] = refl
+called-accepted x (c ∷ cs) = call-accepted (called x cs) c ∙ called-accepted x cs
+
+-- what an end hears in tick n
+unfoldable pub hearsIn : Plan → Side → ℕ → Site
+hearsIn σ d n = heard (siteAt σ d n) (siteAt σ (other d) n) (arrivalsOf d (σ .round n))
+
+pub accepted-next : (σ : Plan) (d : Side) (n : ℕ) → siteAt σ d (suc n) .accepted ≡ hearsIn σ d n .accepted
+unfolding hearsIn readyAt ready
+accepted-next σ d n = ticks-at σ d n .accepted ∙ called-accepted (heard (siteAt σ d n) (siteAt σ (other d) n) (arrivalsOf d (σ .round n))) (callsOf d (σ .round n))
+
+under-same : {x z : Site} {n m : ℕ} → z .accepted ≡ x .accepted → n ≤ m → Under x n → Under z m
+under-same q h u = record { most = λ p k. let l = u .most p (rw q at k) in omega arith }
+
+hears-under : (σ : Plan) (d : Side) (n : ℕ) → σ .epoch < 2 ^ 64 → Under (siteAt σ d n) (endAt σ (other d) n .number) → Under (hearsIn σ d n) (endAt σ (other d) n .number)
+unfolding hearsIn
+hears-under σ d n e u = heard-under (arrivalsOf d (σ .round n)) e (pair-at σ d n e) u
+
+pub under-at : (σ : Plan) (d : Side) (n : ℕ) → σ .epoch < 2 ^ 64 → Under (siteAt σ d n) (endAt σ (other d) n .number)
+unfolding opened has
+under-at σ d zero e = rw (site-start σ d) (record { most = λ p h. omega arith })
+under-at σ d (suc n) e = under-same (accepted-next σ d n) (number-up σ (other d) n (suc n) (omega arith)) (hears-under σ d n e (under-at σ d n e))
+
+-- what was sent in tick k is not accepted when that is over
+pub not-yet : (σ : Plan) (d : Side) (k : ℕ) {e : Entry} → σ .epoch < 2 ^ 64 → In e (sentIn σ d k) → has (e .number) (siteAt σ (other d) (suc k) .accepted) ≡ 0
+not-yet σ d k {e} h i = go (ℕ-discrete (has (e .number) (siteAt σ (other d) (suc k) .accepted)) 0)
+  where
+    go : Dec (has (e .number) (siteAt σ (other d) (suc k) .accepted) ≡ 0) → has (e .number) (siteAt σ (other d) (suc k) .accepted) ≡ 0
+    go (yes q) = q
+    go (no q) =
+        let o : has (e .number) (siteAt σ (other d) (suc k) .accepted) ≡ 1 = omega (arith, has-one (e .number) (siteAt σ (other d) (suc k) .accepted)) in
+        let l : has (e .number) (hearsIn σ (other d) k .accepted) ≡ 1 = rw (accepted-next σ (other d) k) at o in
+        let m = hears-under σ (other d) k h (under-at σ (other d) k h) .most (e .number) l in
+        absurd (omega (arith, sent-above σ d k i, ap (λ (s : Side). endAt σ s k .number) (twice d)))
+
+-- THE WINDOW'S EDGE: h is at most the last number that was sent
+pub high-under : {epoch n : ℕ} {x y : Site} → Pair epoch x y → Under x n → x .end .window .high ≤ n
+high-under {n = n} {x} v u = elim (ℕ-discrete (x .end .window .high) 0) [
+  | yes z ↦ omega arith
+  | no z ↦ u .most (x .end .window .high) (has-in (x .end .window .high) (x .accepted) (high-reached (v .here .window) z))
+]
+
+-- A NEW NUMBER IS ACCEPTED
+placed : {epoch : ℕ} {x y : Site} {m : Message} → Pair epoch x y → Honest y m → Placed (x .end) m
+placed {x = x} {y} v h = go (h .forth) (h .back)
+  where
+    go : {m : Message} → Forth (y .given) (y .finished) (y .end .sending .limit) (y .end .sending .next) m → Back (position (sink y)) (grant (sink y)) m → Placed (x .end) m
+    go f a-data = placed-data (data-placed (v .back) f)
+    go f a-probe = placed-probe
+    go f (back h k s) = placed-ack (ack-placed (v .out) (back h k s))
+
+noted-has : (t : ℕ) {r p epoch : ℕ} {D : Decoded} {m : Message} (ds : List Entry) → r ≡ 0 → D ≡ read epoch p m → has p (noted r t D ++ ds) ≡ 1
+unfolding noted has
+noted-has t {p = p} ds z q = rw (z, q, eq-eqb p p refl)
+
+heard-new : (x : Site) (d : List ℕ) {p epoch : ℕ} {m : Message} → hearAnswer (x .end) d ≡ 0 → decode d ≡ read epoch p m → has p (hear x d .accepted) ≡ 1
+unfolding hear
+heard-new x d z q = noted-has (x .end .clock) (x .accepted) z q
+
+entry-taken : {epoch : ℕ} {x y : Site} {d : Entry} → epoch < 2 ^ 64 → Pair epoch x y → In d (y .sent) → x .end .window .high < d .number + width → has (d .number) (x .accepted) ≡ 0
+    → has (d .number) (hear x (bytesOf (y .end .epoch) d) .accepted) ≡ 1
+entry-taken {x = x} {y} {d} e v i h z =
+    let new = still-new (v .here .window) (λ k. let l = has-in (d .number) (x .accepted) k in omega arith) (every-in (v .there .numbered) i .some) h in
+    let r = reads e v i in
+    heard-new x (bytesOf (y .end .epoch) d) (answer-number (x .end) (bytesOf (y .end .epoch) d) r (placed v (honest v i)) ∙ new) r
+
+hand-over-is : (x : Site) (o : ℕ) {d : Entry} {ds : List Entry} {i : ℕ} → Stands d ds i → handOver x o ds i ≡ hear x (bytesOf o d)
+unfolding handOver
+hand-over-is x o first = refl
+hand-over-is x o (later s) = hand-over-is x o s
+
+arrive-taken : {epoch : ℕ} {x y : Site} {d : Entry} {i : ℕ} → epoch < 2 ^ 64 → Pair epoch x y → Stands d (y .sent) i → x .end .window .high < d .number + width
+    → has (d .number) (arrive x y (handed i) .accepted) ≡ 1
+unfolding arrive
+arrive-taken {x = x} {y} {d} {i} e v s h = go (ℕ-discrete (has (d .number) (x .accepted)) 0)
+  where
+    go : Dec (has (d .number) (x .accepted) ≡ 0) → has (d .number) (handOver x (y .end .epoch) (y .sent) i .accepted) ≡ 1
+    go (yes z) = rw (hand-over-is x (y .end .epoch) s) (entry-taken e v (stands-in s) h z)
+    go (no z) =
+        let l = has-one (d .number) (x .accepted) in
+        let k = arrive-up i in
+        omega (arith, has-one (d .number) (handOver x (y .end .epoch) (y .sent) i .accepted))
+      where
+        arrive-up : (i : ℕ) → has (d .number) (x .accepted) ≤ has (d .number) (handOver x (y .end .epoch) (y .sent) i .accepted)
+        arrive-up i = has-up (d .number) (handed i) e v
+
+pub heard-taken : {epoch : ℕ} {x y : Site} {d : Entry} {i : ℕ} {xs : List Arrival} → epoch < 2 ^ 64 → Pair epoch x y → In (handed i) xs → Stands d (y .sent) i → Under x (y .end .number)
+    → y .end .number < d .number + width
+    → has (d .number) (heard x y xs .accepted) ≡ 1
+unfolding heard
+heard-taken {x = x} {y} e v (here {xs}) s u h =
+    let w = heard-pair xs e v in
+    arrive-taken e w s (omega (arith, high-under w (heard-under xs e v u)))
+heard-taken {x = x} {y} {d} e v (there {y = a} {xs} j) s u h =
+    let w = heard-pair xs e v in
+    omega (arith, heard-taken e v j s u h, has-up (d .number) a e w, has-one (d .number) (arrive (heard x y xs) y a .accepted))

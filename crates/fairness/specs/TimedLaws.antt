@@ -10,6 +10,10 @@ use Rattle.network.specs.World.{Entry, Site, World, Arrival, handed, stray, Cal
 use Rattle.network.specs.Rounds.{Round, nearArrivals, farArrivals, nearCalls, farCalls, choicesOf, allChoices, play}
 use Rattle.fairness.specs.Timed.{Plan, roundsOf, at, Side, the-near, the-far, other, site, intervalOf, arrivalsOf, callsOf, siteAt}
 
+pub twice : (d : Side) → other (other d) ≡ d
+twice the-near = refl
+twice the-far = refl
+
 -- choices from a world on, the newest first
 unfoldable pub steps : World → List Choice → World
 steps w [] = w
