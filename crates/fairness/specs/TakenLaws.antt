@@ -358,3 +358,124 @@ heard-taken {x = x} {y} e v (here {xs}) s u h =
 heard-taken {x = x} {y} {d} e v (there {y = a} {xs} j) s u h =
     let w = heard-pair xs e v in
     omega (arith, heard-taken e v j s u h, has-up (d .number) a e w, has-one (d .number) (arrive (heard x y xs) y a .accepted))
+
+-- THE MOMENT AT WHICH A NUMBER IS ACCEPTED, among what x hears from y
+record Moment (epoch : ℕ) (x y : Site) (p : ℕ) (z : Site) : Type 0 where
+  entry : Entry
+  sent : In entry (y .sent)
+  number-is : entry .number ≡ p
+  before : Site
+  then : Site
+  pair : Pair epoch before y
+  from : Works (x .end) (before .end)
+  accepts : Accepts (before .end) p (entry .message) (then .end)
+  upto : Works (then .end) (z .end)
+
+scan : {epoch : ℕ} {x y : Site} (p : ℕ) (xs : List Arrival) → epoch < 2 ^ 64 → Pair epoch x y → has p (x .accepted) ≡ 0 → has p (heard x y xs .accepted) ≡ 1 → Moment epoch x y p (heard x y xs)
+unfolding heard
+scan p [] e v z o = absurd (omega arith)
+scan {epoch} {x} {y} p (a ∷ xs) e v z o = go (ℕ-discrete (has p (heard x y xs .accepted)) 0) (λ q. scan p xs e v z q)
+  where
+    now : {u : Site} → Event (heard x y xs) y p u → has p (heard x y xs .accepted) ≡ 0 → has p (u .accepted) ≡ 1 → Moment epoch x y p u
+    now (quiet q) n m = absurd (omega arith)
+    now {u} (event {d} i q h k) n m = record {
+      entry = d;
+      sent = i;
+      number-is = q;
+      before = heard x y xs;
+      then = u;
+      pair = heard-pair xs e v;
+      from = works-heard x y xs;
+      accepts = k;
+      upto = works-same (u .end);
+    }
+    go : Dec (has p (heard x y xs .accepted) ≡ 0) → (has p (heard x y xs .accepted) ≡ 1 → Moment epoch x y p (heard x y xs)) → Moment epoch x y p (arrive (heard x y xs) y a)
+    go (yes n) ih = now (arrive-event p a e (heard-pair xs e v)) n o
+    go (no n) ih =
+        let m = ih (omega (arith, has-one p (heard x y xs .accepted))) in
+        record {
+          entry = m .entry;
+          sent = m .sent;
+          number-is = m .number-is;
+          before = m .before;
+          then = m .then;
+          pair = m .pair;
+          from = m .from;
+          accepts = m .accepts;
+          upto = works-then (m .upto) (works-arrive (heard x y xs) y a);
+        }
+
+-- the tick in which it is
+record Rises (f : ℕ → ℕ) (a m : ℕ) : Type 0 where
+  at : ℕ
+  from : a ≤ at
+  below : at < a + m
+  low : f at ≡ 0
+  high : f (suc at) ≡ 1
+
+rises : (f : ℕ → ℕ) → ((n : ℕ) → f n ≤ 1) → (a m : ℕ) → f a ≡ 0 → f (a + m) ≡ 1 → Rises f a m
+rises f b a zero z o = let e : a + 0 ≡ a = omega arith in let q : f a ≡ 1 = rw e at o in absurd (omega arith)
+rises f b a (suc m) z o = go (ℕ-discrete (f (a + m)) 0) (λ q. rises f b a m z q)
+  where
+    go : Dec (f (a + m) ≡ 0) → (f (a + m) ≡ 1 → Rises f a m) → Rises f a (suc m)
+    go (yes q) ih = let e : a + suc m ≡ suc (a + m) = omega arith in record { at = a + m; from = omega arith; below = omega arith; low = q; high = rw e at o }
+    go (no q) ih =
+        let r = ih (omega (arith, b (a + m))) in
+        record { at = r .at; from = r .from; below = omega (arith, r .below); low = r .low; high = r .high }
+
+-- WHAT ARRIVES IN TIME IS ACCEPTED: e, which end d sent in tick k, is accepted at the other end in a tick after k and up to j
+pub record Took (σ : Plan) (d : Side) (e : Entry) (k j : ℕ) : Type 0 where
+  pub tick : ℕ
+  pub after : k < tick
+  pub by : tick ≤ j
+  pub before : Site
+  pub then : Site
+  pub pair : Pair (σ .epoch) before (siteAt σ d tick)
+  pub from : Works (endAt σ (other d) tick) (before .end)
+  pub accepts : Accepts (before .end) (e .number) (e .message) (then .end)
+  pub upto : Works (then .end) (readyAt σ (other d) tick .end)
+
+hears-works : (σ : Plan) (d : Side) (n : ℕ) → Works (hearsIn σ d n .end) (readyAt σ d n .end)
+unfolding hearsIn readyAt ready
+hears-works σ d n = works-called (heard (siteAt σ d n) (siteAt σ (other d) n) (arrivalsOf d (σ .round n))) (callsOf d (σ .round n))
+
+moment-in : (σ : Plan) (r : Side) (n p : ℕ) → σ .epoch < 2 ^ 64 → has p (siteAt σ r n .accepted) ≡ 0 → has p (siteAt σ r (suc n) .accepted) ≡ 1
+    → Moment (σ .epoch) (siteAt σ r n) (siteAt σ (other r) n) p (hearsIn σ r n)
+unfolding hearsIn
+moment-in σ r n p h z o = scan p (arrivalsOf r (σ .round n)) h (pair-at σ r n h) z (rw (accepted-next σ r n) at o)
+
+handed-has : (σ : Plan) (r : Side) (j : ℕ) {e : Entry} {i : ℕ} → σ .epoch < 2 ^ 64 → Stands e (siteAt σ (other r) j .sent) i → In (handed i) (arrivalsOf r (σ .round j))
+    → endAt σ (other r) j .number < e .number + width
+    → has (e .number) (hearsIn σ r j .accepted) ≡ 1
+unfolding hearsIn
+handed-has σ r j h s i l = heard-taken h (pair-at σ r j h) i s (under-at σ r j h) l
+
+took-at : (σ : Plan) (d : Side) (k j i : ℕ) (e : Entry) → In e (sentIn σ d k) → k < i → i ≤ j → Moment (σ .epoch) (siteAt σ (other d) i) (siteAt σ d i) (e .number) (hearsIn σ (other d) i)
+    → Took σ d e k j
+took-at σ d k j i e s a b m =
+    let same : m .entry ≡ e = row-same (row-at σ d i) (m .sent) (sent-stays σ d k i s a) (m .number-is) in
+    record {
+      tick = i;
+      after = a;
+      by = b;
+      before = m .before;
+      then = m .then;
+      pair = m .pair;
+      from = m .from;
+      accepts = accepts-as refl (sym (ap (λ (x : Entry). x .message) same)) (m .accepts);
+      upto = works-then (m .upto) (hears-works σ (other d) i);
+    }
+
+pub in-time : (σ : Plan) (d : Side) (k j place : ℕ) (e : Entry) → σ .epoch < 2 ^ 64 → In e (sentIn σ d k) → k < j → j ≤ k + 32 → Stands e (siteAt σ d j .sent) place
+    → In (handed place) (arrivalsOf (other d) (σ .round j))
+    → Took σ d e k j
+in-time σ d k j place e h s a b stands comes =
+    let p : ℕ = e .number in
+    let f : ℕ → ℕ = λ n. has p (siteAt σ (other d) n .accepted) in
+    let few : endAt σ d j .number ≤ endAt σ d k .number + 32 * (j - k) = (let q : k + (j - k) ≡ j = omega arith in rw q at (number-few σ d k (j - k))) in
+    let near : endAt σ d j .number < p + width = omega (arith, sent-above σ d k s) in
+    let q : suc k + (j - k) ≡ suc j = omega arith in
+    let got : has p (hearsIn σ (other d) j .accepted) ≡ 1 = handed-has σ (other d) j {e = e} {i = place} h (rw (twice d) stands) comes (rw (twice d) near) in
+    let o : f (suc k + (j - k)) ≡ 1 = rw (q, accepted-next σ (other d) j) got in
+    let r = rises f (λ n. has-one p (siteAt σ (other d) n .accepted)) (suc k) (j - k) (not-yet σ d k h s) o in
+    took-at σ d k j (r .at) e s (omega (arith, r .from)) (omega (arith, r .below)) (rw (twice d) at (moment-in σ (other d) (r .at) p h (r .low) (r .high)))
