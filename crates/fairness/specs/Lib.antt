@@ -11,3 +11,4 @@ pub mod SideLaws
 pub mod StateLaws
 pub mod OldestLaws
 pub mod TakenLaws
+pub mod AnswerLaws
