@@ -14,3 +14,4 @@ pub mod Opening
 pub mod OpeningLaws
 pub mod Hearing
 pub mod HearingLaws
+pub mod EndLaws

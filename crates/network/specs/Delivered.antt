@@ -38,10 +38,10 @@ unfoldable pub asksIn : List Entry → ℕ
 asksIn [] = 0
 asksIn (d ∷ ds) = asks (d .message) + asksIn ds
 
--- P holds of each datagram
-pub data Every (P : Entry → Type 0) : List Entry → Type 0 where
+-- P holds of each of a list
+pub data Every {A : Type 0} (P : A → Type 0) : List A → Type 0 where
   nil : Every P []
-  cons : {d : Entry} {ds : List Entry} → P d → Every P ds → Every P (d ∷ ds)
+  cons : {d : A} {ds : List A} → P d → Every P ds → Every P (d ∷ ds)
 
 -- an answer to an honest datagram of this epoch: accepted, or refused for its number alone
 pub data Welcome : ℕ → Type 0 where

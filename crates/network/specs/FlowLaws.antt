@@ -36,7 +36,7 @@ use Rattle.sending.specs.OrderLaws.{taken-end, next-given}
 use Rattle.sending.specs.TickLaws.{next-send}
 use Rattle.network.specs.World.{Entry, leaving}
 use Rattle.network.specs.Delivered.{Every, nil, cons}
-use Rattle.network.specs.TmpSending.{fresh-is, Below, data-below, probe-below, below-up, send-below}
+use Rattle.sending.specs.NetworkLaws.{fresh-is, Below, data-below, probe-below, below-up, send-below}
 use Rattle.network.specs.Truth.{Source, Sink, position, grant, gone, gone-end, Forth, forth, an-ack, Back, back, a-data, a-probe, Flow}
 
 -- EVERY

@@ -2,10 +2,13 @@
 pub mod World
 pub mod Rounds
 pub mod Delivered
-pub mod TmpSending
-pub mod TmpReceiving
-pub mod TmpEnd
 pub mod Truth
 pub mod FlowLaws
 pub mod RunLaws
 pub mod Statement
+pub mod Series
+pub mod SeriesLaws
+pub mod TmpEnd
+pub mod Code
+pub mod CodeLaws
+pub mod Samples

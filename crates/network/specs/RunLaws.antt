@@ -37,9 +37,9 @@ use Rattle.network.specs.World.{Entry, Site, World, opened, Arrival, han
 use Rattle.network.specs.Delivered.{Distinct, numbersOf, isAck, asks, acksIn, asksIn, Every, nil, cons, Welcome, Delivered, BothWays}
 use Rattle.network.specs.Delivered.Distinct.{none as no-number, more as one-more}
 use Rattle.network.specs.Delivered.Welcome.{accepted, too-old, taken-before}
-use Rattle.network.specs.TmpEnd.{Sides, open-is, give-sides, given-is, finish-sides, take-sides, got-is, reached-is, Marked, Accepts, accepts-data, accepts-ack, accepts-probe, Hears, hears, Placed, placed-data, placed-ack, placed-probe, answer-number, Acks, no-ack, one-ack, Ticked, tick-is}
-use Rattle.network.specs.TmpEnd.Hears.{refuses, takes as accepts}
-use Rattle.network.specs.TmpReceiving.{past-end}
+use Rattle.endpoint.specs.EndLaws.{Sides, open-is, give-sides, given-is, finish-sides, take-sides, got-is, reached-is, Marked, Accepts, accepts-data, accepts-ack, accepts-probe, Hears, hears, Placed, placed-data, placed-ack, placed-probe, answer-number, Acks, no-ack, one-ack, Ticked, tick-is}
+use Rattle.endpoint.specs.EndLaws.Hears.{refuses, takes as accepts}
+use Rattle.receiving.specs.NetworkLaws.{past-end}
 use Rattle.network.specs.Truth.{Source, Sink, source, sink, position, grant, gone, gone-end, Forth, forth, an-ack, Back, back, a-data, a-probe, Flow, Numbered, Own, Pair}
 use Rattle.network.specs.FlowLaws.{every-map, every-append, every-leaving, next-most, flow-give, flow-finish, flow-ack, flow-send, flow-hear, flow-take, flow-acks, taken-says, back-now, back-true, flow-start, data-placed, ack-placed, forth-sendable, ack-sendable}
 

@@ -29,8 +29,8 @@ use Rattle.network.specs.Rounds.{Round, allChoices, play}
 use Rattle.network.specs.Delivered.{Distinct, numbersOf, Every, nil, cons, Welcome, Delivered, BothWays}
 use Rattle.network.specs.Delivered.Distinct.{none as no-number, more as one-more}
 use Rattle.network.specs.Delivered.Welcome.{accepted, too-old, taken-before}
-use Rattle.network.specs.TmpEnd.{got-is, reached-is, Placed, placed-data, placed-ack, placed-probe, answer-number}
-use Rattle.network.specs.TmpReceiving.{past-end}
+use Rattle.endpoint.specs.EndLaws.{got-is, reached-is, Placed, placed-data, placed-ack, placed-probe, answer-number}
+use Rattle.receiving.specs.NetworkLaws.{past-end}
 use Rattle.network.specs.Truth.{Source, Sink, source, sink, position, grant, gone, gone-end, Forth, forth, an-ack, Back, back, a-data, a-probe, Flow, Numbered, Own, Pair}
 use Rattle.network.specs.FlowLaws.{taken-says, data-placed, ack-placed}
 use Rattle.network.specs.RunLaws.{swap, Honest, entry-read, run-pair}

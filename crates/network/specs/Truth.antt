@@ -13,7 +13,7 @@ use Rattle.sending.specs.True.{True, SendingOK}
 use Rattle.endpoint.specs.End.{End}
 use Rattle.network.specs.World.{Entry, Site, World}
 use Rattle.network.specs.Delivered.{numbersOf, acksIn, asksIn, Every}
-use Rattle.network.specs.TmpSending.{Below}
+use Rattle.sending.specs.NetworkLaws.{Below}
 
 -- what a direction needs to know of the end that it comes from, and of the end that it goes to
 pub record Source : Type 0 where

@@ -10,3 +10,4 @@ pub mod Truth
 pub mod TruthLaws
 pub mod ReceivingLaws
 pub mod Samples
+pub mod NetworkLaws

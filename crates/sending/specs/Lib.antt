@@ -18,3 +18,4 @@ pub mod CallLaws
 pub mod TickLaws
 pub mod Past
 pub mod PastLaws
+pub mod NetworkLaws
