@@ -9,7 +9,7 @@ use native.Mathlib.Omega.{arith}
 use lib.Dec.{eqb, ltb}
 use lib.ListN.{length, take, length-take}
 use borrow.Author.Tests.{eqb-true, eq-eqb, lt-ltb}
-use Rattle.laws.specs.Choice.{if}
+use Rattle.laws.specs.Choice.{if, if-case}
 use Rattle.laws.specs.Split.{split}
 use Rattle.ring.specs.Ring.{capacity}
 use Rattle.wire.specs.Datagram.{ceiling, Message, DATA, ACK, PROBE}
@@ -27,10 +27,10 @@ use Rattle.sending.specs.CallLaws.{In, here, there}
 use Rattle.endpoint.specs.End.{End, allowanceOf, ackOf, sentOf}
 use Rattle.network.specs.World.{Entry, Site, leaving}
 use Rattle.network.specs.Truth.{Source, Sink, source, sink, position, grant, gone, gone-end, Forth, forth, an-ack, Flow, Pair}
-use Rattle.network.specs.TmpSending.{data-below}
-use Rattle.network.specs.TmpReceiving.{past-end}
+use Rattle.sending.specs.NetworkLaws.{data-below}
+use Rattle.receiving.specs.NetworkLaws.{past-end}
 use Rattle.network.specs.FlowLaws.{next-most}
-use Rattle.network.specs.TmpEnd.{Marked, Accepts, accepts-data, accepts-ack, accepts-probe}
+use Rattle.endpoint.specs.EndLaws.{Marked, Accepts, accepts-data, accepts-ack, accepts-probe}
 use Rattle.fairness.specs.Timed.{Plan, Side, other, siteAt, endAt}
 use Rattle.fairness.specs.Networks.{isSegment, isAck, isProbe, sentIn, sends, Going}
 use Rattle.fairness.specs.TimedLaws.{readyAt}
@@ -75,5 +75,30 @@ unfolding isAck
 not-ack (data-true t) e = let z : _≡_ {A = ℕ} 0 1 = cc in omega arith
 not-ack (probe-true t) e = let z : _≡_ {A = ℕ} 0 1 = cc in omega arith
 
-in-either : {A : Type 0} {x : A} (xs : List A) {ys : List A} → In x (xs ++ ys) → In x xs ⊎ In x ys
-in-either xs i = ?
+ack-after : {H : List ℕ} {closed limit : ℕ} {m : Message} {ms : List Message} (ks : List Message) → Each (True H closed limit) ms → In m (ms ++ ks) → isAck m ≡ true → In m ks
+ack-after ks each-none i e = i
+ack-after ks (each-more t ts) here e = absurd (not-ack t e)
+ack-after ks (each-more t ts) (there i) e = ack-after ks ts i e
+
+ack-is : (e : End) {m : Message} → In m (ackOf e) → m ≡ ACK (ackPosition (e .receiving)) (ackCredit (e .receiving))
+unfolding ackOf
+ack-is e {m} = if-case (λ (ms : List Message). In m ms → m ≡ ACK (ackPosition (e .receiving)) (ackCredit (e .receiving))) (eqb (e .due) 1 && ltb 0 (allowanceOf e)) (λ t i. only i) (λ t i. elim i [ ])
+  where
+    only : {k : Message} → In m (k ∷ []) → m ≡ k
+    only here = refl
+    only (there i) = elim i [ ]
+
+leaving-message : (t n : ℕ) (ms : List Message) {d : Entry} → In d (leaving t n ms) → In (d .message) ms
+unfolding leaving
+leaving-message t n [] i = elim i [ ]
+leaving-message t n (m ∷ ms) here = here
+leaving-message t n (m ∷ ms) (there i) = there (leaving-message t n ms i)
+
+-- an ACK that left in tick k says what its end has when that is over
+pub ack-said : (σ : Plan) (d : Side) (k : ℕ) {e : Entry} → σ .epoch < 2 ^ 64 → In e (sentIn σ d k) → isAck (e .message) ≡ true
+    → e .message ≡ ACK (ackPosition (endAt σ d (suc k) .receiving)) (ackCredit (endAt σ d (suc k) .receiving))
+ack-said σ d k {e} h i t =
+    let x : End = readyAt σ d k .end in
+    let j : In (e .message) (sentOf x) = leaving-message _ _ (sentOf x) (rw (sent-in σ d k) at i) in
+    let l : In (e .message) (ackOf x) = ack-after (ackOf x) (send-true (work x) (ready-pair σ d k h .out .sender)) (rw (sent-is x) at j) t in
+    rw (ticks-at σ d k .receiving) (ack-is x l)

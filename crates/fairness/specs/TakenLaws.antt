@@ -23,8 +23,8 @@ use Rattle.network.specs.Rounds.{allChoices, play}
 use Rattle.network.specs.Delivered.{numbersOf, Every, nil, cons}
 use Rattle.network.specs.Truth.{sink, position, grant, Forth, Back, back, a-data, a-probe, Flow, Numbered, Own, Pair}
 use Rattle.network.specs.FlowLaws.{data-placed, ack-placed}
-use Rattle.network.specs.TmpEnd.{Accepts, Hears, hears, Placed, placed-data, placed-ack, placed-probe, answer-number}
-use Rattle.network.specs.TmpEnd.Hears.{refuses, takes as accepts}
+use Rattle.endpoint.specs.EndLaws.{Accepts, Hears, hears, Placed, placed-data, placed-ack, placed-probe, answer-number}
+use Rattle.endpoint.specs.EndLaws.Hears.{refuses, takes as accepts}
 use Rattle.network.specs.RunLaws.{swap, Honest, entry-read, act-pair, run-pair}
 use Rattle.fairness.specs.Timed.{Plan, roundsOf, at, Side, the-near, the-far, other, arrivalsOf, callsOf, siteAt, endAt}
 use Rattle.fairness.specs.Networks.{sentIn, Stands, first, later, Going}
