@@ -12,3 +12,4 @@ pub mod StateLaws
 pub mod OldestLaws
 pub mod TakenLaws
 pub mod AnswerLaws
+pub mod SegmentLaws
