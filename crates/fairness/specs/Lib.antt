@@ -4,6 +4,7 @@ pub mod Bounds
 pub mod Table
 pub mod Turns
 pub mod TurnsLaws
+pub mod TimerLaws
 pub mod Timed
 pub mod TimedLaws
 pub mod Networks

@@ -3,7 +3,6 @@ use mathlib.Core.Path.{_≡_, refl, ap, sym, _∙_}
 use mathlib.Core.Bool.{Bool, true, false, _&&_}
 use mathlib.Core.List.{List, [], _∷_, _++_}
 use Prim.Native.Nat.{ℕ, zero, suc, _+_, _-_, _*_, _≤_, _<_}
-use native.Mathlib.Nat.{add-zero, add-suc}
 use native.Mathlib.Decide.{decLe, decLt}
 use native.Mathlib.Omega.{arith}
 use lib.Dec.{eqb}
@@ -22,8 +21,7 @@ use Rattle.sending.specs.TickLaws.{Last, last-has, has-in, Covers, covers, Sent
 use Rattle.sending.specs.PastLaws.{oldest-past}
 use Rattle.endpoint.specs.End.{End, clockOf, ackOf, sentOf}
 use Rattle.network.specs.World.{Entry, leaving}
-use Rattle.fairness.specs.Count.{count}
-use Rattle.fairness.specs.CountLaws.{one, found}
+use Rattle.fairness.specs.TimerLaws.{Beat, beats, rests, Timer, Held}
 use Rattle.fairness.specs.Timed.{Plan, Side, intervalOf, siteAt, endAt}
 use Rattle.fairness.specs.Networks.{isSegment, anyOf, sends, Going}
 use Rattle.fairness.specs.TimedLaws.{readyAt}
@@ -136,52 +134,20 @@ oldest-tick σ d a n T g going l k h =
     go (end-sent i e q) = sent (sends-it σ d (isSegment a (g .to)) n i e) (rw (now-at σ d n (omega (arith, going .ticks))) at q)
     go (end-waits e q) = waits (omega (arith, now-at σ d n (omega (arith, going .ticks)), stays-ready σ d n .interval, interval-at σ d n)) q
 
--- as long as it is not dropped it is the oldest
-pub record Holds (σ : Plan) (d : Side) (a b n : ℕ) : Type 0 where
-  pub at : ℕ
-  pub oldest : Oldest a (record { to = b; at = at }) (endAt σ d n .sending)
+-- A TIMER: when n ticks are over the segment from a to b is the oldest, last sent when `at` were
+abbrev pub HoldsAt : Plan → Side → ℕ → ℕ → ℕ → ℕ → Type 0
+HoldsAt σ d a b at n = Oldest a (record { to = b; at = at }) (endAt σ d n .sending)
 
-holds-next : (σ : Plan) (d : Side) (a b n T : ℕ) → Going σ T → n < T → Holds σ d a b n → endAt σ d (suc n) .sending .acked < b → Holds σ d a b (suc n)
-holds-next σ d a b n T going l k h = go (oldest-tick σ d a n T (record { to = b; at = k .at }) going l (k .oldest) h)
+abbrev pub Holds : Plan → Side → ℕ → ℕ → ℕ → Type 0
+Holds σ d a b n = Held (HoldsAt σ d a b) n
+
+pub oldest-timer : (σ : Plan) (d : Side) (a b T : ℕ) → Going σ T → Timer (sends σ d (isSegment a b)) (λ n. endAt σ d n .sending .acked) (HoldsAt σ d a b) (intervalOf d σ) b T
+oldest-timer σ d a b T going = record {
+  up = λ n m l. acked-up σ d n m l;
+  past = λ at n l k. oldest-past (past-at σ d n (omega (arith, going .ticks))) (k .kept);
+  beat = λ at n l k h. go at n (oldest-tick σ d a n T (record { to = b; at = at }) going l k h);
+}
   where
-    go : Turned σ d a n (record { to = b; at = k .at }) → Holds σ d a b (suc n)
-    go (sent e q) = record { at = suc n; oldest = q }
-    go (waits e q) = record { at = k .at; oldest = q }
-
-pub holds-on : (σ : Plan) (d : Side) (a b t T : ℕ) → Going σ T → Holds σ d a b t → (k : ℕ) → t + k ≤ T → endAt σ d (t + k) .sending .acked < b → Holds σ d a b (t + k)
-holds-on σ d a b t T going k zero l h = rw add-zero k
-holds-on σ d a b t T going k (suc j) l h =
-    rw add-suc
-    (let h′ : endAt σ d (suc (t + j)) .sending .acked < b = rw add-suc at h in
-    holds-next σ d a b (t + j) T going (omega arith) (holds-on σ d a b t T going k j (omega arith) (omega (arith, acked-up σ d (t + j) (suc (t + j)) (omega arith)))) h′)
-
--- with r ticks left until it is due it is sent at most r ticks later
-fires : (σ : Plan) (d : Side) (a b T r n : ℕ) → Going σ T → (k : Holds σ d a b n) → k .at + intervalOf d σ ≤ suc n + r → n + r < T → endAt σ d (suc n + r) .sending .acked < b
-    → 1 ≤ count (sends σ d (isSegment a b)) n (suc r)
-fires σ d a b T zero n going k due l h =
-    go (oldest-tick σ d a n T (record { to = b; at = k .at }) going (omega arith) (k .oldest) (omega (arith, acked-up σ d (suc n) (suc n + 0) (omega arith))))
-  where
-    go : Turned σ d a n (record { to = b; at = k .at }) → 1 ≤ count (sends σ d (isSegment a b)) n 1
-    go (sent e q) = one (sends σ d (isSegment a b)) n n 1 (omega arith) (omega arith) (omega arith)
-    go (waits e q) = absurd (omega arith)
-fires σ d a b T (suc r) n going k due l h =
-    go (oldest-tick σ d a n T (record { to = b; at = k .at }) going (omega arith) (k .oldest) (omega (arith, acked-up σ d (suc n) (suc n + suc r) (omega arith))))
-    (λ q. fires σ d a b T r (suc n) going q)
-  where
-    go : Turned σ d a n (record { to = b; at = k .at })
-        → ((q : Holds σ d a b (suc n)) → q .at + intervalOf d σ ≤ suc (suc n) + r → suc n + r < T → endAt σ d (suc (suc n) + r) .sending .acked < b → 1 ≤ count (sends σ d (isSegment a b)) (suc n) (suc r))
-        → 1 ≤ count (sends σ d (isSegment a b)) n (suc (suc r))
-    go (sent e q) ih = one (sends σ d (isSegment a b)) n n (suc (suc r)) (omega arith) (omega arith) (omega arith)
-    go (waits e q) ih =
-        let later = ih (record { at = k .at; oldest = q }) (omega arith) (omega arith) (omega (arith, acked-up σ d (suc (suc n) + r) (suc n + suc r) (omega arith))) in
-        let f = found (sends σ d (isSegment a b)) (suc n) (suc r) later in
-        one (sends σ d (isSegment a b)) n (f .k) (suc (suc r)) (omega (arith, f .from)) (omega (arith, f .below)) (f .here)
-
--- SENT AT LEAST ONCE IN R TICKS
-pub oldest-tries : (σ : Plan) (d : Side) (a b T n : ℕ) → Going σ T → 1 ≤ intervalOf d σ → Holds σ d a b n → n + intervalOf d σ ≤ T → endAt σ d (n + intervalOf d σ) .sending .acked < b
-    → 1 ≤ count (sends σ d (isSegment a b)) n (intervalOf d σ)
-oldest-tries σ d a b T n going p k l h =
-    let r : ℕ = intervalOf d σ - 1 in
-    let e : suc r ≡ intervalOf d σ = omega arith in
-    let past : k .at ≤ n = oldest-past (past-at σ d n (omega (arith, going .ticks))) (k .oldest .kept) in
-    rw e at (fires σ d a b T r n going k (omega arith) (omega arith) (omega (arith, acked-up σ d (suc n + r) (n + intervalOf d σ) (omega arith))))
+    go : (at n : ℕ) → Turned σ d a n (record { to = b; at = at }) → Beat (sends σ d (isSegment a b)) (HoldsAt σ d a b) (intervalOf d σ) at n
+    go at n (sent e q) = beats e q
+    go at n (waits e q) = rests e q

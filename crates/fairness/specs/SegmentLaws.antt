@@ -22,12 +22,13 @@ use Rattle.endpoint.specs.EndLaws.{Marked, Accepts, accepts-data, accepts-ack, 
 use Rattle.network.specs.World.{Entry, Site}
 use Rattle.network.specs.Truth.{source, sink, Forth, Flow, Pair}
 use Rattle.fairness.specs.Turns.{Comes, Turns}
+use Rattle.fairness.specs.TimerLaws.{timer-tries, held-at}
 use Rattle.fairness.specs.Timed.{Plan, Side, the-near, the-far, other, intervalOf, siteAt, endAt}
 use Rattle.fairness.specs.Networks.{isSegment, isAck, sends, Arrives, Going}
 use Rattle.fairness.specs.TimedLaws.{twice, readyAt}
 use Rattle.fairness.specs.SideLaws.{Works, Moves, moves-orderly, moves-acked, fills-position}
 use Rattle.fairness.specs.StateLaws.{ticks-at, orderly-at, acked-up, ready-next, positionAt, position-up}
-use Rattle.fairness.specs.OldestLaws.{sends-one, Oldest, Still, still, dropped, moves-still, Holds, holds-on, oldest-tries}
+use Rattle.fairness.specs.OldestLaws.{sends-one, Oldest, Still, still, dropped, moves-still, Holds, oldest-timer}
 use Rattle.fairness.specs.TakenLaws.{pair-at, honest, sent-stays, Took, in-time}
 use Rattle.fairness.specs.AnswerLaws.{data-reaches, answers, ack-said}
 
@@ -66,7 +67,7 @@ segment-comes σ d a b t T k j g o from lt near last v =
     let u = in-time σ d k j (v .place) e (g .epoch) (v .sent) lt near (v .stands) (v .comes) in
     let i : ℕ = u .tick in
     let f : Forth _ _ _ _ (e .message) = honest (u .pair) (sent-stays σ d k i (v .sent) (u .after)) .forth in
-    let l : a ≤ endAt σ d i .sending .acked = omega (arith, o .oldest .acked, acked-up σ d t i (omega (arith, u .after))) in
+    let l : a ≤ endAt σ d i .sending .acked = omega (arith, o .is .acked, acked-up σ d t i (omega (arith, u .after))) in
     let h = segment-taken (u .pair) f (segment-is (e .message) (v .is)) l (u .accepts) in
     let there′ : b ≤ ackPosition (readyAt σ (other d) i .end .receiving) = omega (arith, h .there, fills-position (u .upto .receiving)) in
     record {
@@ -123,11 +124,9 @@ segment-told σ d a b t T k j g o from lt near last v h =
     go u (yes l) = omega (arith, acked-up σ d (u .tick) (suc j) (omega (arith, u .by)))
     go u (no l) =
         let i : ℕ = u .tick in
-        let q : t + (i - t) ≡ i = omega (arith, u .after) in
-        let k₁ : Holds σ d a b (t + (i - t)) = holds-on σ d a b t T g o (i - t) (omega (arith, u .by, u .after)) (rw q (omega arith)) in
-        let k₂ : Holds σ d a b i = rw q at k₁ in
+        let held : Holds σ d a b i = held-at (oldest-timer σ d a b T g) t i o (omega (arith, u .after)) (omega (arith, u .by)) (omega arith) in
         let ord = moves-orderly (u .from) (orderly-at σ d i) in
-        let s = moves-still (u .from) (orderly-at σ d i) (still (k₂ .oldest)) in
+        let s = moves-still (u .from) (orderly-at σ d i) (still (held .is)) in
         let r = reached (ackPosition (endAt σ (other d) (suc k) .receiving)) (ackCredit (endAt σ (other d) (suc k) .receiving)) ord s h in
         let m = moves-acked (u .upto) (orderly-ack _ _ _ ord) in
         omega (arith, ready-next σ d i .acked, acked-up σ d (suc i) (suc j) (omega (arith, u .by)))
@@ -144,12 +143,12 @@ segment-turns σ d a b t T D g h o = record {
   here-up = λ n m l k. position-up σ (other d) n m l;
   known-up = λ n m l k. acked-up σ d n m l;
   known-true = λ n l. behind σ d n (g .epoch);
-  tries = λ n l k m. oldest-tries σ d a b T n g (interval-some σ d T g) (holds n l (omega arith) (omega (arith, acked-up σ d n (n + intervalOf d σ) (omega arith)))) k m;
+  tries = λ n l k m.
+      let v = oldest-timer σ d a b T g in
+      let held : Holds σ d a b n = held-at v t n o l (omega arith) (omega (arith, acked-up σ d n (n + intervalOf d σ) (omega arith))) in
+      timer-tries v (interval-some σ d T g) (held .last) n (held .is) k m;
   once = λ n. sends-one σ d (isSegment a b) n;
   answers-once = λ n. sends-one σ (other d) isAck n;
   comes = λ k j from lt near last v less. segment-comes σ d a b t T k j g o from lt (omega arith) last v;
   told = λ k j from lt near last v more. segment-told σ d a b t T k j g o from lt (omega arith) last v more;
 }
-  where
-    holds : (n : ℕ) → t ≤ n → n ≤ T → endAt σ d n .sending .acked < b → Holds σ d a b n
-    holds n l k m = let q : t + (n - t) ≡ n = omega arith in rw q at (holds-on σ d a b t T g o (n - t) (omega arith) (rw q m))
