@@ -14,3 +14,4 @@ pub mod OldestLaws
 pub mod TakenLaws
 pub mod AnswerLaws
 pub mod SegmentLaws
+pub mod Statement
