@@ -14,4 +14,5 @@ pub mod OldestLaws
 pub mod TakenLaws
 pub mod AnswerLaws
 pub mod SegmentLaws
+pub mod CreditLaws
 pub mod Statement
