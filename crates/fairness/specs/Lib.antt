@@ -15,4 +15,7 @@ pub mod TakenLaws
 pub mod AnswerLaws
 pub mod SegmentLaws
 pub mod CreditLaws
+pub mod EdgeLaws
+pub mod CutsLaws
+pub mod AllLaws
 pub mod Statement

@@ -78,3 +78,8 @@ pub record Going (σ : Plan) (T : ℕ) : Type 0 where
 -- hosts that take whatever is there in every tick: when it is over nothing is left that could be taken
 pub record Takers (σ : Plan) (T : ℕ) : Type 0 where
   pub all : (d : Side) (n : ℕ) → n < T → lowOf (endAt σ d (suc n) .receiving) ≡ endAt σ d (suc n) .receiving .taken
+
+-- a host that gives all at the start: after the first tick nothing more is given, and finish is not called
+pub record GivenAtStart (σ : Plan) (d : Side) (T : ℕ) : Type 0 where
+  pub given : (n : ℕ) → 1 ≤ n → n ≤ T → endAt σ d n .sending .given ≡ endAt σ d 1 .sending .given
+  pub closed : (n : ℕ) → 1 ≤ n → n ≤ T → endAt σ d n .sending .closed ≡ endAt σ d 1 .sending .closed
