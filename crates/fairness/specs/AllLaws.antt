@@ -1,13 +1,15 @@
 -- All is given at the start: one segment after the other is the oldest, until nothing is left. Assumes nothing.
 use mathlib.Core.Path.{_≡_, refl, ap, sym, _∙_}
-use mathlib.Core.Logic.{_⊎_, inl, inr}
 use mathlib.Core.List.{List, [], _∷_, _++_}
 use Prim.Native.Nat.{ℕ, zero, suc, _+_, _-_, _*_, _^_, _≤_, _<_, min}
 use native.Mathlib.Decide.{ℕ-discrete, decLt, decLe}
 use native.Mathlib.Omega.{arith}
-use lib.ListN.{length}
+use lib.ListN.{length, length-take}
 use Rattle.ring.specs.Ring.{capacity}
 use Rattle.wire.specs.Datagram.{payloadMost}
+use Rattle.receiving.specs.Receiving.{lowOf, ackPosition}
+use Rattle.receiving.specs.TruthLaws.{says-length, says-whole}
+use Rattle.receiving.specs.NetworkLaws.{past-end}
 use Rattle.sending.specs.declared.Tick.{Tick}
 use Rattle.sending.specs.Sending.{segmentsMost, Segment, Sending, lineOf, startOf}
 use Rattle.sending.specs.Sending as sending
@@ -18,6 +20,8 @@ use Rattle.sending.specs.CallLaws.{In, here, there, tick-keeps, TickKeeps}
 use Rattle.sending.specs.OrderLaws.{chain-up, acked-next}
 use Rattle.sending.specs.TickLaws.{next-send, Last, last-has, has-in, resentOf, resent-few, NewSegment, cut-new, cut-last}
 use Rattle.endpoint.specs.End.{End, openOf}
+use Rattle.network.specs.FlowLaws.{taken-says}
+use Rattle.fairness.specs.TakenLaws.{pair-at}
 use Rattle.fairness.specs.Timed.{Plan, Side, other, intervalOf, siteAt, endAt}
 use Rattle.fairness.specs.Networks.{Going, GivenAtStart}
 use Rattle.fairness.specs.TimedLaws.{readyAt}
@@ -165,3 +169,21 @@ next-end σ d n T g s h = go (lasts (endAt σ d (suc n) .sending .kept))
         let c = cuts-at σ d (suc n) T s h in
         let i = has-in (last-has k) in
         marks x k (chain-above (orderly-at σ d (suc n) .chain) i) refl (c .acked) refl (mark-in (c .kept) i)
+
+-- HANDED UP: what has all arrived, and is taken, is what was given
+pub handed-up : (σ : Plan) (d : Side) (n : ℕ) → σ .epoch < 2 ^ 64 → endAt σ d n .sending .given + endAt σ d n .sending .closed ≤ ackPosition (endAt σ (other d) n .receiving)
+    → lowOf (endAt σ (other d) n .receiving) ≡ endAt σ (other d) n .receiving .taken
+    → siteAt σ (other d) n .taken ≡ siteAt σ d n .given
+handed-up σ d n e h t = go (decLt (lowOf (endAt σ (other d) n .receiving)) (ackPosition (endAt σ (other d) n .receiving)))
+  where
+    whole-by : endAt σ d n .sending .given ≤ lowOf (endAt σ (other d) n .receiving) → siteAt σ (other d) n .taken ≡ siteAt σ d n .given
+    whole-by l =
+        let v = pair-at σ d n e .out in
+        let s = taken-says v in
+        says-whole s (omega (arith, says-length s, v .sender .given, v .receiver .count))
+    go : Dec (lowOf (endAt σ (other d) n .receiving) < ackPosition (endAt σ (other d) n .receiving)) → siteAt σ (other d) n .taken ≡ siteAt σ d n .given
+    go (no l) = whole-by (omega arith)
+    go (yes l) =
+        let v = pair-at σ d n e .out in
+        let q = past-end (v .receiver) l in
+        whole-by (omega (arith, q .last, q .finished, length-take (endAt σ d n .sending .next) (siteAt σ d n .given), v .sender .given))

@@ -8,14 +8,14 @@ use Rattle.receiving.specs.Receiving.{ackPosition}
 use Rattle.sending.specs.Sending.{Segment}
 use Rattle.sending.specs.TickLaws.{Last, Waits}
 use Rattle.fairness.specs.Bounds.{handTicks, dropTicks}
-use Rattle.fairness.specs.Timed.{Plan, Side, other, intervalOf, endAt}
+use Rattle.fairness.specs.Timed.{Plan, Side, other, intervalOf, siteAt, endAt}
 use Rattle.fairness.specs.Networks.{FairNetwork, Going, Takers, GivenAtStart}
 use Rattle.fairness.specs.TurnsLaws.{here-by, known-by}
-use Rattle.fairness.specs.StateLaws.{positionAt, acked-up}
+use Rattle.fairness.specs.StateLaws.{positionAt, position-up, acked-up}
 use Rattle.fairness.specs.OldestLaws.{Holds}
-use Rattle.fairness.specs.SegmentLaws.{segment-turns}
+use Rattle.fairness.specs.SegmentLaws.{behind, segment-turns}
 use Rattle.fairness.specs.CutsLaws.{Mark, start, inner, whole}
-use Rattle.fairness.specs.AllLaws.{bytesOf, wholeOf, cuts-at, acked-whole, Next, all-gone, oldest-ends, last-ends, next-end}
+use Rattle.fairness.specs.AllLaws.{bytesOf, wholeOf, cuts-at, acked-whole, Next, all-gone, oldest-ends, last-ends, next-end, handed-up}
 use Rattle.fairness.specs.CreditLaws.{takes-grants, waits-held, credit-turns}
 
 -- a segment that is the oldest kept
@@ -96,3 +96,33 @@ all-dropped σ d L D T n f g s p few l =
     go (so-far q) start e = absurd (omega arith)
     go (so-far q) (inner k x h) e = absurd (omega arith)
     go (so-far q) (whole x) e = e ∙ x
+
+-- the last of them is in hand before that
+last-in-hand : (σ : Plan) (d : Side) (L D T m u : ℕ) → FairNetwork σ L D T → Going σ T → GivenAtStart σ d T → endAt σ d 1 .sending .given ≤ suc m * payloadMost → Progress σ d (suc u) m
+    → u + handTicks L D (intervalOf d σ) < T
+    → wholeOf σ d ≤ ackPosition (endAt σ (other d) (suc (u + handTicks L D (intervalOf d σ))) .receiving)
+unfolding positionAt bytesOf
+last-in-hand σ d L D T m u f g s few p l = go p (next-end σ d u T g s (omega arith))
+  where
+    gone : endAt σ d (suc u) .sending .acked ≡ wholeOf σ d → wholeOf σ d ≤ ackPosition (endAt σ (other d) (suc (u + handTicks L D (intervalOf d σ))) .receiving)
+    gone q = omega (arith, behind σ d (suc u) (g .epoch), position-up σ (other d) (suc u) (suc (u + handTicks L D (intervalOf d σ))) (omega arith))
+    go : Progress σ d (suc u) m → Next σ d (suc u) → wholeOf σ d ≤ ackPosition (endAt σ (other d) (suc (u + handTicks L D (intervalOf d σ))) .receiving)
+    go (all-of-it q) x = gone q
+    go (so-far q) (all-gone e) = gone e
+    go (so-far q) (oldest-ends x k e h) = absurd (omega arith)
+    go (so-far q) (last-ends x k e) =
+        let a : suc u + handTicks L D (intervalOf d σ) ≡ suc (u + handTicks L D (intervalOf d σ)) = omega arith in
+        let b : x .to ≤ ackPosition (endAt σ (other d) (suc (u + handTicks L D (intervalOf d σ))) .receiving) = rw a at (in-hand σ d L D T (suc u) x f g k (omega arith)) in
+        omega arith
+
+-- and handed up: hosts that take whatever is there in every tick have then taken all that was given
+pub all-handed-up : (σ : Plan) (d : Side) (L D T m : ℕ) → FairNetwork σ L D T → Going σ T → GivenAtStart σ d T → Takers σ T → endAt σ d 1 .sending .given ≤ suc m * payloadMost
+    → suc (m * dropTicks L D (intervalOf d σ) + handTicks L D (intervalOf d σ)) ≤ T
+    → siteAt σ (other d) (suc (m * dropTicks L D (intervalOf d σ) + handTicks L D (intervalOf d σ))) .taken
+        ≡ siteAt σ d (suc (m * dropTicks L D (intervalOf d σ) + handTicks L D (intervalOf d σ))) .given
+unfolding wholeOf
+all-handed-up σ d L D T m f g s h few l =
+    let u : ℕ = m * dropTicks L D (intervalOf d σ) in
+    let v : ℕ = u + handTicks L D (intervalOf d σ) in
+    let p = last-in-hand σ d L D T m u f g s few (progress σ d L D T m f g s (omega arith)) (omega arith) in
+    handed-up σ d (suc v) (g .epoch) (omega (arith, s .given (suc v) (omega arith) l, s .closed (suc v) (omega arith) l)) (h .all (other d) v l)
