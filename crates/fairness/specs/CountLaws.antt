@@ -1,6 +1,6 @@
 -- Laws of counting over ticks. Assumes nothing.
 use mathlib.Core.Path.{_≡_, refl}
-use Prim.Native.Nat.{ℕ, zero, suc, _+_, _*_, _≤_, _<_}
+use Prim.Native.Nat.{ℕ, zero, suc, _+_, _-_, _*_, _≤_, _<_}
 use native.Mathlib.Nat.{add-zero, add-suc, add-assoc}
 use native.Mathlib.Decide.{decLe, decLt}
 use native.Mathlib.Omega.{arith}
@@ -62,3 +62,41 @@ found s t (suc n) h = go (s (t + n)) refl (found s t n)
     go : (m : ℕ) → s (t + n) ≡ m → (1 ≤ count s t n → Found s t n) → Found s t (suc n)
     go zero e ih = let f = ih (omega arith) in record { k = f .k; from = f .from; below = omega arith; here = f .here }
     go (suc m) e ih = record { k = t + n; from = omega arith; below = omega arith; here = omega arith }
+
+-- a stretch within another has no more
+pub count-within : (s : ℕ → ℕ) (a m t n : ℕ) → a ≤ t → t + n ≤ a + m → count s t n ≤ count s a m
+count-within s a m t n h k =
+    let x = t - a in
+    let y = a + m - (t + n) in
+    let p : a + x ≡ t = omega arith in
+    let q : m ≡ x + (n + y) = omega arith in
+    rw (q, count-add s a x (n + y), p, count-add s t n y) (omega arith)
+
+-- FAIR, shown: where nothing is sent L times
+pub fair-none : {s : ℕ → ℕ} {arrives : ℕ → ℕ → Type 0} {L D T : ℕ} → count s 0 T < L → Fair s arrives L D T
+fair-none {s} {T = T} h = record { one-of = λ t n e l. absurd (omega (arith, count-within s 0 T t n (omega arith) (omega arith))) }
+
+-- where one arrives, and there are fewer than L before it and after it
+pub fair-one : {s : ℕ → ℕ} {arrives : ℕ → ℕ → Type 0} {L D T : ℕ} (k j : ℕ) → k < j → j ≤ k + D → arrives k j → count s 0 k < L → count s (suc k) (T - suc k) < L → Fair s arrives L D T
+fair-one {s} {arrives} {L} {D} {T} k j lt near v before after = record { one-of = λ t n e l. go t n e l (decLe t k) (decLt k (t + n)) }
+  where
+    go : (t n : ℕ) → count s t n ≡ L → t + n + D ≤ T → Dec (t ≤ k) → Dec (k < t + n) → Arrival arrives D t n
+    go t n e l (yes a) (yes b) = record { sent = k; come = j; from = a; below = b; after = lt; within = near; arrived = v }
+    go t n e l (yes a) (no b) = absurd (omega (arith, count-within s 0 k t n (omega arith) (omega arith)))
+    go t n e l (no a) b = absurd (omega (arith, count-within s (suc k) (T - suc k) t n (omega arith) (omega arith)))
+
+-- where two do
+pub fair-two : {s : ℕ → ℕ} {arrives : ℕ → ℕ → Type 0} {L D T : ℕ} (k j k′ j′ : ℕ) → k < j → j ≤ k + D → arrives k j → k′ < j′ → j′ ≤ k′ + D → arrives k′ j′
+    → count s 0 k < L
+    → count s (suc k) (k′ - suc k) < L
+    → count s (suc k′) (T - suc k′) < L
+    → Fair s arrives L D T
+fair-two {s} {arrives} {L} {D} {T} k j k′ j′ lt near v lt′ near′ v′ before between after =
+    record { one-of = λ t n e l. go t n e l (decLe t k) (decLt k (t + n)) (decLe t k′) (decLt k′ (t + n)) }
+  where
+    go : (t n : ℕ) → count s t n ≡ L → t + n + D ≤ T → Dec (t ≤ k) → Dec (k < t + n) → Dec (t ≤ k′) → Dec (k′ < t + n) → Arrival arrives D t n
+    go t n e l (yes a) (yes b) c d = record { sent = k; come = j; from = a; below = b; after = lt; within = near; arrived = v }
+    go t n e l (yes a) (no b) c d = absurd (omega (arith, count-within s 0 k t n (omega arith) (omega arith)))
+    go t n e l (no a) b (yes c) (yes d) = record { sent = k′; come = j′; from = c; below = d; after = lt′; within = near′; arrived = v′ }
+    go t n e l (no a) b (yes c) (no d) = absurd (omega (arith, count-within s (suc k) (k′ - suc k) t n (omega arith) (omega arith)))
+    go t n e l (no a) b (no c) d = absurd (omega (arith, count-within s (suc k′) (T - suc k′) t n (omega arith) (omega arith)))

@@ -19,3 +19,5 @@ pub mod EdgeLaws
 pub mod CutsLaws
 pub mod AllLaws
 pub mod Statement
+pub mod Samples
+pub mod EdgeSamples
