@@ -95,8 +95,10 @@ cuts-more w s o z a room lt = go (decLt (s .next) (s .given))
   where
     none-kept : length (s .kept) ≡ 0
     none-kept = ap length z
+
     more : NewSegment w s → s .next < sendOf w s .side .next
     more n = omega (arith, n .up, n .next)
+
     go : Dec (s .next < s .given) → s .next < sendOf w s .side .next
     go (yes h) = more (cut-new w s o (omega (arith, none-kept)) (omega (arith, none-kept, resent-few w s)) h (omega arith))
     go (no h) = more (cut-last w s o (omega (arith, none-kept)) (omega (arith, none-kept, resent-few w s)) (omega (arith, o .closed)) (omega (arith, o .closed)))
@@ -109,8 +111,10 @@ none-left e {t} q o p a room z k = go (decLt (e .sending .next) (e .sending .giv
   where
     same : t .next ≡ t .acked
     same = p .last ∙ ap (startOf (t .acked)) z
+
     up : e .sending .next ≤ t .next
     up = omega (arith, ap (λ (s : Sending). s .next) q, next-send (work e) (e .sending))
+
     go : Dec (e .sending .next < e .sending .given + e .sending .closed) → e .sending .given + e .sending .closed ≤ t .acked
     go (no h) = omega (arith, up, same)
     go (yes h) =
@@ -163,6 +167,7 @@ next-end σ d n T g s h = go (lasts (endAt σ d (suc n) .sending .kept))
     marks x k up p (inner j f o) q start = absurd (omega arith)
     marks x k up p (inner j f o) q (inner i e l) = oldest-ends x k (omega arith) (omega arith)
     marks x k up p (inner j f o) q (whole e) = last-ends x k (q ∙ e)
+
     go : Lasts (endAt σ d (suc n) .sending .kept) → Next σ d (suc n)
     go (no-last z) = all-gone (omega (arith, all-kept σ d n T g s h z, acked-whole σ d n T s h))
     go (a-last x k) =
@@ -181,6 +186,7 @@ handed-up σ d n e h t = go (decLt (lowOf (endAt σ (other d) n .receiving)) (ac
         let v = pair-at σ d n e .out in
         let s = taken-says v in
         says-whole s (omega (arith, says-length s, v .sender .given, v .receiver .count))
+
     go : Dec (lowOf (endAt σ (other d) n .receiving) < ackPosition (endAt σ (other d) n .receiving)) → siteAt σ (other d) n .taken ≡ siteAt σ d n .given
     go (no l) = whole-by (omega arith)
     go (yes l) =

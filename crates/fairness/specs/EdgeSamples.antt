@@ -26,7 +26,6 @@ use Rattle.network.specs.Delivered.{numbersOf}
 use Rattle.fairness.specs.Networks.{sentIn}
 use Rattle.fairness.specs.Timed.{Plan, roundsOf, at, Side, the-near, the-far, siteAt, endAt}
 
-
 late : ℕ → ℕ → Plan
 late tick place = record {
   epoch = 7;

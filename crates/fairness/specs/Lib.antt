@@ -1,6 +1,7 @@
 pub mod Count
 pub mod CountLaws
 pub mod Bounds
+pub mod Variants
 pub mod Table
 pub mod Turns
 pub mod TurnsLaws

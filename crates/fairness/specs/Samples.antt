@@ -23,7 +23,7 @@ use Rattle.network.specs.World.{Entry, Site, World, Arrival, handed, Call, give
 use Rattle.network.specs.World as world
 use Rattle.network.specs.Rounds.{Round, nearArrivals, farArrivals, nearCalls, farCalls, choicesOf, allChoices, play}
 use Rattle.fairness.specs.Timed.{Plan, roundsOf, at, Side, the-near, the-far, siteAt, endAt}
-use Rattle.fairness.specs.Networks.{isSegment, isAck, isProbe, sentIn, anyOf, sends, first, Arrives, FairNetwork, Going}
+use Rattle.fairness.specs.Networks.{isSegment, isAck, isProbe, sentIn, anyOf, sends, first, Arrives, FairNetwork, Going, Takers, GivenAtStart}
 use Rattle.fairness.specs.Count.{count, Fair}
 use Rattle.fairness.specs.CountLaws.{fair-none, fair-one, fair-two}
 use Rattle.fairness.specs.Bounds.{dropTicks}
@@ -132,9 +132,11 @@ lossy-fair = record {
     segments : (d : Side) (a b : ℕ) → Fair (sends lossy d (isSegment a b)) (Arrives lossy d (isSegment a b)) 2 1 12
     segments the-near a b = near-fair (isSegment a b)
     segments the-far a b = fair-none (omega (arith, far-segments a b))
+
     acks : (d : Side) → Fair (sends lossy d isAck) (Arrives lossy d isAck) 2 1 12
     acks the-near = near-fair isAck
     acks the-far = fair-one 7 8 (omega arith) (omega arith) far-arrives (omega (arith, far-first)) (omega (arith, far-last))
+
     probes : (d : Side) → Fair (sends lossy d isProbe) (Arrives lossy d isProbe) 2 1 12
     probes the-near = near-fair isProbe
     probes the-far = fair-none (omega (arith, far-probes))
@@ -153,6 +155,77 @@ positions the-far = omega arith
 pub lossy-going : Going lossy 12
 unfolding lossy sentIn siteAt at roundsOf play allChoices choicesOf nearArrivals farArrivals nearCalls farCalls when _orElse_ branch encode run datagram.kindOf datagram.flagsOf datagram.positionOf datagram.creditOf datagram.payloadOf datagram.be datagram.headOf datagram.headerOf reading.num reading.fieldsOf reading.dataRow reading.plainRow reading.rowsOf reading.formOf reading.messageOf reading.decodeAs reading.decode window.unseen window.fresh window.seenOf window.verdictOf window.slide window.acceptOf receiving.fresh receiving.first receiving.lay receiving.fillCells receiving.fillOf receiving.hearOf receiving.lead receiving.lowOf receiving.up receiving.reach receiving.highOf receiving.heads receiving.gotOf receiving.takeOf receiving.endAt receiving.endedOf receiving.ackPosition receiving.ackCredit receiving.beyondOf receiving.misplacedOf receiving.refusalBy receiving.refusalOf sending.fresh sending.startOf sending.partOf sending.dataOf giving.roomOf giving.giveOf giving.finishOf acking.leftOf acking.ackedOf acking.ackOf steps.dueOf steps.againOf steps.resendOf steps.cutTo steps.cutOne steps.cutOf steps.agoOf steps.probesOf steps.probeOf steps.cutsOf steps.stepsOf steps.sendOf end.openOf end.giveOf end.givenOf end.finishOf end.gotOf end.takeOf end.reachedOf end.placeOf end.refusalOf end.acceptedOf end.answerTo end.acceptIf end.afterHearing end.hearAnswer end.hearOf end.clockOf end.allowanceOf end.ackOf end.stepOf end.sentOf end.tickOf world.opened world.noted world.hear world.bytesOf world.handOver world.strange world.arrive world.call world.leaving world.tick world.act world.step
 lossy-going = record { epoch = omega arith; near = omega arith; far = omega arith; ticks = omega arith; numbers = numbers; positions = positions }
+
+-- the hosts take what is there in every tick, and near's gives all at the start
+near-taken : (n : ℕ) → n < 12 → receiving.lowOf (endAt lossy the-near (suc n) .receiving) ≡ endAt lossy the-near (suc n) .receiving .taken
+unfolding lossy sentIn siteAt at roundsOf play allChoices choicesOf nearArrivals farArrivals nearCalls farCalls when _orElse_ branch encode run datagram.kindOf datagram.flagsOf datagram.positionOf datagram.creditOf datagram.payloadOf datagram.be datagram.headOf datagram.headerOf reading.num reading.fieldsOf reading.dataRow reading.plainRow reading.rowsOf reading.formOf reading.messageOf reading.decodeAs reading.decode window.unseen window.fresh window.seenOf window.verdictOf window.slide window.acceptOf receiving.fresh receiving.first receiving.lay receiving.fillCells receiving.fillOf receiving.hearOf receiving.lead receiving.lowOf receiving.up receiving.reach receiving.highOf receiving.heads receiving.gotOf receiving.takeOf receiving.endAt receiving.endedOf receiving.ackPosition receiving.ackCredit receiving.beyondOf receiving.misplacedOf receiving.refusalBy receiving.refusalOf sending.fresh sending.startOf sending.partOf sending.dataOf giving.roomOf giving.giveOf giving.finishOf acking.leftOf acking.ackedOf acking.ackOf steps.dueOf steps.againOf steps.resendOf steps.cutTo steps.cutOne steps.cutOf steps.agoOf steps.probesOf steps.probeOf steps.cutsOf steps.stepsOf steps.sendOf end.openOf end.giveOf end.givenOf end.finishOf end.gotOf end.takeOf end.reachedOf end.placeOf end.refusalOf end.acceptedOf end.answerTo end.acceptIf end.afterHearing end.hearAnswer end.hearOf end.clockOf end.allowanceOf end.ackOf end.stepOf end.sentOf end.tickOf world.opened world.noted world.hear world.bytesOf world.handOver world.strange world.arrive world.call world.leaving world.tick world.act world.step
+near-taken zero h = refl
+near-taken (suc zero) h = refl
+near-taken (suc (suc zero)) h = refl
+near-taken (suc (suc (suc zero))) h = refl
+near-taken (suc (suc (suc (suc zero)))) h = refl
+near-taken (suc (suc (suc (suc (suc zero))))) h = refl
+near-taken (suc (suc (suc (suc (suc (suc zero)))))) h = refl
+near-taken (suc (suc (suc (suc (suc (suc (suc zero))))))) h = refl
+near-taken (suc (suc (suc (suc (suc (suc (suc (suc zero)))))))) h = refl
+near-taken (suc (suc (suc (suc (suc (suc (suc (suc (suc zero))))))))) h = refl
+near-taken (suc (suc (suc (suc (suc (suc (suc (suc (suc (suc zero)))))))))) h = refl
+near-taken (suc (suc (suc (suc (suc (suc (suc (suc (suc (suc (suc zero))))))))))) h = refl
+near-taken (suc (suc (suc (suc (suc (suc (suc (suc (suc (suc (suc (suc n)))))))))))) h = absurd (omega arith)
+
+far-taken : (n : ℕ) → n < 12 → receiving.lowOf (endAt lossy the-far (suc n) .receiving) ≡ endAt lossy the-far (suc n) .receiving .taken
+unfolding lossy sentIn siteAt at roundsOf play allChoices choicesOf nearArrivals farArrivals nearCalls farCalls when _orElse_ branch encode run datagram.kindOf datagram.flagsOf datagram.positionOf datagram.creditOf datagram.payloadOf datagram.be datagram.headOf datagram.headerOf reading.num reading.fieldsOf reading.dataRow reading.plainRow reading.rowsOf reading.formOf reading.messageOf reading.decodeAs reading.decode window.unseen window.fresh window.seenOf window.verdictOf window.slide window.acceptOf receiving.fresh receiving.first receiving.lay receiving.fillCells receiving.fillOf receiving.hearOf receiving.lead receiving.lowOf receiving.up receiving.reach receiving.highOf receiving.heads receiving.gotOf receiving.takeOf receiving.endAt receiving.endedOf receiving.ackPosition receiving.ackCredit receiving.beyondOf receiving.misplacedOf receiving.refusalBy receiving.refusalOf sending.fresh sending.startOf sending.partOf sending.dataOf giving.roomOf giving.giveOf giving.finishOf acking.leftOf acking.ackedOf acking.ackOf steps.dueOf steps.againOf steps.resendOf steps.cutTo steps.cutOne steps.cutOf steps.agoOf steps.probesOf steps.probeOf steps.cutsOf steps.stepsOf steps.sendOf end.openOf end.giveOf end.givenOf end.finishOf end.gotOf end.takeOf end.reachedOf end.placeOf end.refusalOf end.acceptedOf end.answerTo end.acceptIf end.afterHearing end.hearAnswer end.hearOf end.clockOf end.allowanceOf end.ackOf end.stepOf end.sentOf end.tickOf world.opened world.noted world.hear world.bytesOf world.handOver world.strange world.arrive world.call world.leaving world.tick world.act world.step
+far-taken zero h = refl
+far-taken (suc zero) h = refl
+far-taken (suc (suc zero)) h = refl
+far-taken (suc (suc (suc zero))) h = refl
+far-taken (suc (suc (suc (suc zero)))) h = refl
+far-taken (suc (suc (suc (suc (suc zero))))) h = refl
+far-taken (suc (suc (suc (suc (suc (suc zero)))))) h = refl
+far-taken (suc (suc (suc (suc (suc (suc (suc zero))))))) h = refl
+far-taken (suc (suc (suc (suc (suc (suc (suc (suc zero)))))))) h = refl
+far-taken (suc (suc (suc (suc (suc (suc (suc (suc (suc zero))))))))) h = refl
+far-taken (suc (suc (suc (suc (suc (suc (suc (suc (suc (suc zero)))))))))) h = refl
+far-taken (suc (suc (suc (suc (suc (suc (suc (suc (suc (suc (suc zero))))))))))) h = refl
+far-taken (suc (suc (suc (suc (suc (suc (suc (suc (suc (suc (suc (suc n)))))))))))) h = absurd (omega arith)
+
+pub lossy-takers : Takers lossy 12
+lossy-takers = record { all = λ d. taken d }
+  where
+    taken : (d : Side) (n : ℕ) → n < 12 → receiving.lowOf (endAt lossy d (suc n) .receiving) ≡ endAt lossy d (suc n) .receiving .taken
+    taken the-near = near-taken
+    taken the-far = far-taken
+
+record Settled (n : ℕ) : Type 0 where
+  given : endAt lossy the-near (suc n) .sending .given ≡ endAt lossy the-near 1 .sending .given
+  closed : endAt lossy the-near (suc n) .sending .closed ≡ endAt lossy the-near 1 .sending .closed
+
+settled : (n : ℕ) → n < 12 → Settled n
+unfolding lossy sentIn siteAt at roundsOf play allChoices choicesOf nearArrivals farArrivals nearCalls farCalls when _orElse_ branch encode run datagram.kindOf datagram.flagsOf datagram.positionOf datagram.creditOf datagram.payloadOf datagram.be datagram.headOf datagram.headerOf reading.num reading.fieldsOf reading.dataRow reading.plainRow reading.rowsOf reading.formOf reading.messageOf reading.decodeAs reading.decode window.unseen window.fresh window.seenOf window.verdictOf window.slide window.acceptOf receiving.fresh receiving.first receiving.lay receiving.fillCells receiving.fillOf receiving.hearOf receiving.lead receiving.lowOf receiving.up receiving.reach receiving.highOf receiving.heads receiving.gotOf receiving.takeOf receiving.endAt receiving.endedOf receiving.ackPosition receiving.ackCredit receiving.beyondOf receiving.misplacedOf receiving.refusalBy receiving.refusalOf sending.fresh sending.startOf sending.partOf sending.dataOf giving.roomOf giving.giveOf giving.finishOf acking.leftOf acking.ackedOf acking.ackOf steps.dueOf steps.againOf steps.resendOf steps.cutTo steps.cutOne steps.cutOf steps.agoOf steps.probesOf steps.probeOf steps.cutsOf steps.stepsOf steps.sendOf end.openOf end.giveOf end.givenOf end.finishOf end.gotOf end.takeOf end.reachedOf end.placeOf end.refusalOf end.acceptedOf end.answerTo end.acceptIf end.afterHearing end.hearAnswer end.hearOf end.clockOf end.allowanceOf end.ackOf end.stepOf end.sentOf end.tickOf world.opened world.noted world.hear world.bytesOf world.handOver world.strange world.arrive world.call world.leaving world.tick world.act world.step
+settled zero h = record { given = refl; closed = refl }
+settled (suc zero) h = record { given = refl; closed = refl }
+settled (suc (suc zero)) h = record { given = refl; closed = refl }
+settled (suc (suc (suc zero))) h = record { given = refl; closed = refl }
+settled (suc (suc (suc (suc zero)))) h = record { given = refl; closed = refl }
+settled (suc (suc (suc (suc (suc zero))))) h = record { given = refl; closed = refl }
+settled (suc (suc (suc (suc (suc (suc zero)))))) h = record { given = refl; closed = refl }
+settled (suc (suc (suc (suc (suc (suc (suc zero))))))) h = record { given = refl; closed = refl }
+settled (suc (suc (suc (suc (suc (suc (suc (suc zero)))))))) h = record { given = refl; closed = refl }
+settled (suc (suc (suc (suc (suc (suc (suc (suc (suc zero))))))))) h = record { given = refl; closed = refl }
+settled (suc (suc (suc (suc (suc (suc (suc (suc (suc (suc zero)))))))))) h = record { given = refl; closed = refl }
+settled (suc (suc (suc (suc (suc (suc (suc (suc (suc (suc (suc zero))))))))))) h = record { given = refl; closed = refl }
+settled (suc (suc (suc (suc (suc (suc (suc (suc (suc (suc (suc (suc n)))))))))))) h = absurd (omega arith)
+
+pub lossy-start : GivenAtStart lossy the-near 12
+lossy-start = record { given = λ n. given n; closed = λ n. closed n }
+  where
+    given : (n : ℕ) → 1 ≤ n → n ≤ 12 → endAt lossy the-near n .sending .given ≡ endAt lossy the-near 1 .sending .given
+    given zero p h = absurd (omega arith)
+    given (suc n) p h = settled n h .given
+
+    closed : (n : ℕ) → 1 ≤ n → n ≤ 12 → endAt lossy the-near n .sending .closed ≡ endAt lossy the-near 1 .sending .closed
+    closed zero p h = absurd (omega arith)
+    closed (suc n) p h = settled n h .closed
 
 -- THE BOUND: from 1 on, 12. It is not dropped when 8 ticks are over, and it is when 9 are
 pub lossy-oldest : Last (record { to = 1; at = 1 }) (endAt lossy the-near 1 .sending .kept)

@@ -60,12 +60,15 @@ progress-more σ d L D T u i f g s l p = go p (next-end σ d u T g s (omega arit
   where
     top : endAt σ d (suc (u + dropTicks L D (intervalOf d σ))) .sending .acked ≤ wholeOf σ d
     top = acked-whole σ d (u + dropTicks L D (intervalOf d σ)) T s l
+
     up : endAt σ d (suc u) .sending .acked ≤ endAt σ d (suc (u + dropTicks L D (intervalOf d σ))) .sending .acked
     up = acked-up σ d (suc u) (suc (u + dropTicks L D (intervalOf d σ))) (omega arith)
+
     by : (x : Segment) → Last x (endAt σ d (suc u) .sending .kept) → x .to ≤ endAt σ d (suc (u + dropTicks L D (intervalOf d σ))) .sending .acked
     by x k =
         let e : suc u + dropTicks L D (intervalOf d σ) ≡ suc (u + dropTicks L D (intervalOf d σ)) = omega arith in
         rw e at (acknowledged σ d L D T (suc u) x f g k (omega arith))
+
     go : Progress σ d (suc u) i → Next σ d (suc u) → Progress σ d (suc (u + dropTicks L D (intervalOf d σ))) (suc i)
     go (all-of-it q) x = all-of-it (omega (arith, top, up))
     go (so-far q) (all-gone e) = all-of-it (omega (arith, top, up))
@@ -106,6 +109,7 @@ last-in-hand σ d L D T m u f g s few p l = go p (next-end σ d u T g s (omega a
   where
     gone : endAt σ d (suc u) .sending .acked ≡ wholeOf σ d → wholeOf σ d ≤ ackPosition (endAt σ (other d) (suc (u + handTicks L D (intervalOf d σ))) .receiving)
     gone q = omega (arith, behind σ d (suc u) (g .epoch), position-up σ (other d) (suc u) (suc (u + handTicks L D (intervalOf d σ))) (omega arith))
+
     go : Progress σ d (suc u) m → Next σ d (suc u) → wholeOf σ d ≤ ackPosition (endAt σ (other d) (suc (u + handTicks L D (intervalOf d σ))) .receiving)
     go (all-of-it q) x = gone q
     go (so-far q) (all-gone e) = gone e
@@ -119,7 +123,7 @@ last-in-hand σ d L D T m u f g s few p l = go p (next-end σ d u T g s (omega a
 pub all-handed-up : (σ : Plan) (d : Side) (L D T m : ℕ) → FairNetwork σ L D T → Going σ T → GivenAtStart σ d T → Takers σ T → endAt σ d 1 .sending .given ≤ suc m * payloadMost
     → suc (m * dropTicks L D (intervalOf d σ) + handTicks L D (intervalOf d σ)) ≤ T
     → siteAt σ (other d) (suc (m * dropTicks L D (intervalOf d σ) + handTicks L D (intervalOf d σ))) .taken
-        ≡ siteAt σ d (suc (m * dropTicks L D (intervalOf d σ) + handTicks L D (intervalOf d σ))) .given
+    ≡ siteAt σ d (suc (m * dropTicks L D (intervalOf d σ) + handTicks L D (intervalOf d σ))) .given
 unfolding wholeOf
 all-handed-up σ d L D T m f g s h few l =
     let u : ℕ = m * dropTicks L D (intervalOf d σ) in

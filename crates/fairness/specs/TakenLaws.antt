@@ -389,6 +389,7 @@ scan {epoch} {x} {y} p (a ∷ xs) e v z o = go (ℕ-discrete (has p (heard x y x
       accepts = k;
       upto = works-same (u .end);
     }
+
     go : Dec (has p (heard x y xs .accepted) ≡ 0) → (has p (heard x y xs .accepted) ≡ 1 → Moment epoch x y p (heard x y xs)) → Moment epoch x y p (arrive (heard x y xs) y a)
     go (yes n) ih = now (arrive-event p a e (heard-pair xs e v)) n o
     go (no n) ih =
