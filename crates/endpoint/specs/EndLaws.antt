@@ -1,24 +1,24 @@
 -- What each call does to the parts of an end: who is concerned with two ends goes by these, and opens no definition. Assumes nothing.
-use mathlib.Core.Path.{_≡_, refl, sym, ap, _∙_}
+use mathlib.Core.Path.{_≡_, refl, sym, _∙_}
 use mathlib.Core.Bool.{not, _&&_}
 use mathlib.Core.List.{List, [], _∷_, _++_}
-use Prim.Native.Nat.{ℕ, zero, suc, _+_, _-_, _≤_, _<_, min}
+use Prim.Native.Nat.{ℕ, zero, suc, _+_, _-_, _≤_, _<_}
 use native.Mathlib.Omega.{arith}
 use lib.Dec.{eqb, ltb}
 use lib.ListN.{length, length-append}
 use borrow.Author.Tests.{eqb-true, ltb-true}
-use lib.IntN.{ℤ, pos, negsuc}
+use lib.IntN.{pos, negsuc}
 use Rattle.laws.specs.Choice.{if-case}
-use Rattle.laws.specs.Rows.{when, _orElse_}
+use Rattle.laws.specs.Rows.{_orElse_}
 use Rattle.laws.specs.RowsLaws.{row-left, row-right, passed-ne, miss-ne}
-use Rattle.wire.specs.Datagram.{ceiling, Message, DATA, ACK, PROBE}
-use Rattle.wire.specs.Reading.{Decoded, refused, read, formOf, decodeAs, decode}
-use Rattle.window.specs.Window.{Window, verdictOf, acceptOf}
+use Rattle.wire.specs.Datagram.{ceiling, Message, DATA, ACK, PROBE, wire}
+use Rattle.wire.specs.Reading.{Decoded, read, formOf, decodeAs, decode}
+use Rattle.window.specs.Window.{verdictOf, acceptOf}
 use Rattle.window.specs.Window as window
 use Rattle.receiving.specs.Receiving.{Receiving, endedOf, ackPosition, ackCredit}
 use Rattle.receiving.specs.Receiving as receiving
 use Rattle.sending.specs.declared.Tick.{Tick}
-use Rattle.sending.specs.Sending.{datagramsMost, Sending}
+use Rattle.sending.specs.Sending.{Sending}
 use Rattle.sending.specs.Sending as sending
 use Rattle.sending.specs.Giving as giving
 use Rattle.sending.specs.Acking as acking
@@ -26,7 +26,7 @@ use Rattle.sending.specs.Steps.{sendOf}
 use Rattle.sending.specs.StepLaws.{and-left, and-right}
 use Rattle.sending.specs.CallLaws.{ack-sent, honest-ack}
 use Rattle.sending.specs.TickLaws.{send-few}
-use Rattle.endpoint.specs.End.{End, openOf, giveOf, givenOf, finishOf, gotOf, takeOf, reachedOf, placeOf, refusalOf, acceptedOf, answerTo, acceptIf, afterHearing, hearAnswer, hearOf, clockOf, allowanceOf, ackOf, stepOf, sentOf, tickOf}
+use Rattle.endpoint.specs.End.{End, openOf, giveOf, givenOf, finishOf, gotOf, takeOf, reachedOf, placeOf, refusalOf, acceptedOf, answerTo, acceptIf, afterHearing, hearAnswer, hearOf, clockOf, allowanceOf, ackOf, stepOf, sentOf, tickOf, outputOf}
 use Rattle.endpoint.specs.Answer.{answerOf}
 
 -- OPEN
@@ -211,6 +211,11 @@ tick-is e =
       number = refl;
       small = λ h. let k = allowance-few e h in rw length-append (omega (arith, a .few));
     }
+
+-- and its bytes
+pub output-is : (e : End) → outputOf e ≡ wire (e .epoch) (e .number) (sentOf e)
+unfolding outputOf
+output-is e = refl
 
 -- ANSWERS: a value is not below 0, a refusal is
 pub value-is : (n : ℕ) → answerOf 0 n ≡ pos n

@@ -36,7 +36,7 @@ use Rattle.endpoint.specs.Layout.{tableWords, Sections, sectionsOf, comm
 use Rattle.endpoint.specs.LayoutLaws.{withCommon, withWindow, common-size, sends-size, scalars-size, put-common, put-sends, put-receives, put-window, window-size, ring-put, ring-size}
 use Rattle.endpoint.specs.StreamLaws.{ready-ranged}
 use Rattle.endpoint.specs.ReadyLaws.{Ready}
-use Rattle.endpoint.specs.Hearing.{placeRow, judgeRow, hearRow, noting, Noted, DataDone, AckDone}
+use Rattle.endpoint.specs.Hearing.{placeRow, judgeRow, hearRow, noting, Noted, DataDone, AckDone, Heard}
 
 -- THE ROWS, as the code goes through them
 module _ (s : Sections) (h : Header) where
@@ -110,6 +110,10 @@ pub record Hearable (s : Sections) (d : List ℕ) : Type 0 where
 pub hearable : (s : Sections) (d : List ℕ) (r : ℕ) → r ≡ hearRow s d → r ≡ 0 → Hearable s d
 unfolding hearRow
 hearable s d r e z = record { well = form-formed d 0 (sym (row-left _ _ (sym e ∙ z))) refl; judged-zero = row-right _ _ (sym e ∙ z) }
+
+pub form-zero : (s : Sections) (d : List ℕ) (r : ℕ) → r ≡ hearRow s d → r ≡ 0 → formOf d ≡ 0
+unfolding hearRow
+form-zero s d r e z = row-left _ _ (sym e ∙ z)
 
 pub form-header : (d : List ℕ) (r : ℕ) → r ≡ formOf d → r ≡ 0 → headSize ≤ length d
 form-header d r e z = form-formed d r e z .whole-header
@@ -191,7 +195,7 @@ pub ack-within : {s : Sections} {h : Header} → Ready s → Judged s h → h .k
 unfolding placeRow
 ack-within {s} {h} r j k =
     let z = else-eq (ackRefusal (sendsOf (s .sends) .row .next) (h .position)) (receiving.refusal (scalarsOf (s .receives)) (h .position) (h .length) (h .flags)) _ (h .kind) 1 (λ q. omega arith)
-        (then-eq (ackRefusal (sendsOf (s .sends) .row .next) (h .position)) _ 0 (h .kind) 2 k refl) ∙ j .placed in
+    (then-eq (ackRefusal (sendsOf (s .sends) .row .next) (h .position)) _ 0 (h .kind) 2 k refl) ∙ j .placed in
     let p = passed-lt (sendsOf (s .sends) .row .next) (h .position) 7 (omega arith) z in
     omega (arith, r .sends .next, r .sends .given)
 
@@ -218,3 +222,53 @@ ack-done {t} {t₁} {y} {h} {c} {u} {r} {g} lt ec e a gr n ey =
         granted = rw (← e) gr;
       };
     }
+
+-- ANY DATAGRAM
+-- what hearing one asks, before its fields are read
+pub record HearReady (t : List ℕ) (i m : ℕ) (d : List ℕ) : Type 0 where
+  pub table-size : tableWords ≤ length t
+  pub incoming-size : capacity ≤ i
+  pub marks-size : capacity ≤ m
+  pub ready : Ready (sectionsOf t)
+  pub may : Hearable (sectionsOf t) d
+
+module _ {t : List ℕ} {i m : ℕ} {d : List ℕ} {h : Header} (k : HearReady t i m d) (f : Fields d h) where
+  pub may-judged : Judged (sectionsOf t) h
+  may-judged = rw (f .are) (judged (sectionsOf t) (fieldsOf d) (k .may .judged-zero))
+
+  pub may-hearing : Hearing t i m d h
+  may-hearing = record { table-size = k .table-size; incoming-size = k .incoming-size; marks-size = k .marks-size; ready = k .ready; fields = f; well = k .may .well; is-judged = may-judged }
+
+module _ {t i m d : List ℕ} {h : Header} (f : Fields d h) where
+  pub heard-data : {t' i' m' : List ℕ} → h .kind ≡ 1 → DataDone t i m d h t' i' m' → Heard t i m d (fieldsOf d) t' i' m'
+  heard-data k x = rw (← f .are) (record {
+    size = x .size;
+    incoming-size = x .incoming-size;
+    marks-size = x .marks-size;
+    data-heard = λ q. x .heard;
+    ack-heard = λ q. absurd (omega arith);
+    probe-heard = λ q. absurd (omega arith);
+    same = λ n. absurd (n k);
+  })
+
+  pub heard-ack : {t' : List ℕ} → h .kind ≡ 2 → AckDone t h t' → Heard t i m d (fieldsOf d) t' i m
+  heard-ack k x = rw (← f .are) (record {
+    size = x .size;
+    incoming-size = refl;
+    marks-size = refl;
+    data-heard = λ q. absurd (omega arith);
+    ack-heard = λ q. x .heard;
+    probe-heard = λ q. absurd (omega arith);
+    same = λ n. (refl, refl);
+  })
+
+  pub heard-probe : {t' : List ℕ} → (h .kind ≡ 1 → ⊥) → (h .kind ≡ 2 → ⊥) → Noted t (h .number) 1 t' → Heard t i m d (fieldsOf d) t' i m
+  heard-probe j k x = rw (← f .are) (record {
+    size = x .size;
+    incoming-size = refl;
+    marks-size = refl;
+    data-heard = λ q. absurd (j q);
+    ack-heard = λ q. absurd (k q);
+    probe-heard = λ q. x;
+    same = λ n. (refl, refl);
+  })

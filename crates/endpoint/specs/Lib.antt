@@ -15,3 +15,8 @@ pub mod OpeningLaws
 pub mod Hearing
 pub mod HearingLaws
 pub mod EndLaws
+pub mod HeardLaws
+pub mod Ticking
+pub mod TickingLaws
+pub mod TickedLaws
+pub mod SmallLaws

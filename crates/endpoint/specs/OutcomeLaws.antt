@@ -43,7 +43,7 @@ pub short-small : (t a b : ℕ) → shortRow t a b ≤ 13
 unfolding shortRow
 short-small t a b = or-small _ _ 13 (at-most _ 11 13 (omega arith)) (or-small _ _ 13 (at-most _ 11 13 (omega arith)) (or-small _ _ 13 (at-most _ 11 13 (omega arith)) (omega arith)))
 
-ready-most : (t : List ℕ) (a b : ℕ) → readyOf t a b ≤ 13
+pub ready-most : (t : List ℕ) (a b : ℕ) → readyOf t a b ≤ 13
 unfolding readyOf openedRow
 ready-most t a b = or-small _ _ 13 (short-small (length t) a b) (at-most _ 12 13 (omega arith))
 

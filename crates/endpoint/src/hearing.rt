@@ -8,18 +8,18 @@ ghost use Rattle.wire.specs.Reading.{fieldsOf};
 ghost use Rattle.window.specs.Window.{width};
 ghost use Rattle.endpoint.specs.Layout.{tableWords, sectionsOf, commonOf};
 ghost use Rattle.endpoint.specs.ReadyLaws.{Ready};
-ghost use Rattle.endpoint.specs.Hearing.{placeRow, judgeRow, hearRow, Noted, DataDone, AckDone};
-ghost use Rattle.endpoint.specs.HearingLaws.{Judged, Hearing};
-use sending::Line;
-use wire::Header;
+ghost use Rattle.endpoint.specs.Hearing.{placeRow, judgeRow, hearRow, Noted, DataDone, AckDone, Heard};
+ghost use Rattle.endpoint.specs.HearingLaws.{Judged, Hearing, HearReady};
 use super::table::Common;
-use super::table::common_in;
 use super::table::Sends;
+use super::table::common_in;
 use super::table::save_common;
 use super::table::save_scalars;
 use super::table::save_sends;
 use super::table::scalars_in;
 use super::table::sends_in;
+use sending::Line;
+use wire::Header;
 
 // Refusals 7, 8 and 9, or 0.
 fn place(t: &[u64], h: Header) -> u64
@@ -91,8 +91,16 @@ fn data(t: &mut [u64], incoming: &mut [u8], marks: &mut [u8], d: &[u8], h: Heade
     ensures { λ _. ⌜ DataDone (now (t .entry)) (now (incoming .entry)) (now (marks .entry)) (now (d .entry)) h (now (t .exit)) (now (incoming .exit)) (now (marks .exit)) ⌝ }
 {
     let s = scalars_in(t);
-    let v = receiving::hear(&mut incoming[0..65536], &mut marks[0..65536], s, h.position, &d[32..], h.flags);
-    note(t, h.number, 1);
+    let v = receiving::hear(
+        &mut incoming[0..65536],
+        &mut marks[0..65536],
+        s,
+        h.position,
+        &d[32..],
+        h.flags,
+    );
+    let number = h.number;
+    note(t, number, 1);
     save_scalars(&mut t[15..20], v);
 }
 
@@ -122,4 +130,21 @@ fn ack(t: &mut [u64], h: Header)
     };
     note(t, h.number, c.due);
     save_sends(&mut t[7..15], v);
+}
+
+// An accepted datagram.
+pub fn hear(t: &mut [u64], incoming: &mut [u8], marks: &mut [u8], d: &[u8])
+    requires { ⌜ HearReady (now t) (length (now incoming)) (length (now marks)) (now d) ⌝ }
+    ensures { λ _. ⌜ Heard (now (t .entry)) (now (incoming .entry)) (now (marks .entry)) (now (d .entry)) (fieldsOf (now (d .entry))) (now (t .exit)) (now (incoming .exit)) (now (marks .exit)) ⌝ }
+{
+    let h = wire::fields(d);
+    if h.kind == 1 {
+        data(t, incoming, marks, d, h);
+        return;
+    }
+    if h.kind == 2 {
+        ack(t, h);
+        return;
+    }
+    note(t, h.number, 1);
 }

@@ -5,8 +5,9 @@ mod opening;
 mod ready;
 mod stream;
 mod table;
+mod ticking;
 
-ghost use Rattle.endpoint.specs.Calls.{Opens, Gives, Finishes, Takes};
+ghost use Rattle.endpoint.specs.Calls.{Opens, Gives, Finishes, Hears, Takes, Ticks};
 use answer::refusal;
 use answer::value;
 use ready::CAPACITY;
@@ -82,4 +83,42 @@ pub extern "C" fn sluice_take(
     let after = stream::take(table, incoming, out);
     *ended = receiving::ended(after) as u8;
     value(after.taken - before.taken)
+}
+
+// datagram bytes: one datagram from the network, of any length. Answers 0, or minus the number of its refusal.
+#[no_mangle]
+pub extern "C" fn sluice_datagram(
+    table: &mut [u64],
+    incoming: &mut [u8],
+    marks: &mut [u8],
+    bytes: &[u8],
+) -> i64
+    ensures { λ r. ⌜ Hears (now (table .entry)) (now (incoming .entry)) (now (marks .entry)) (now (bytes .entry)) r (now (table .exit)) (now (incoming .exit)) (now (marks .exit)) ⌝ }
+{
+    let no = ready(table, incoming.len(), marks.len());
+    if no != 0 {
+        return refusal(no);
+    }
+    let wrong = hearing::hear_row(table, bytes);
+    if wrong != 0 {
+        return refusal(wrong);
+    }
+    hearing::hear(table, incoming, marks, bytes);
+    value(0)
+}
+
+// tick: the clock moves on by one. Writes the datagrams to be sent now into out, one after the other, and answers their bytes in all.
+#[no_mangle]
+pub extern "C" fn sluice_tick(table: &mut [u64], outgoing: &[u8], out: &mut [u8]) -> i64
+    ensures { λ r. ⌜ Ticks (now (table .entry)) (now (outgoing .entry)) (now (out .entry)) r (now (table .exit)) (now (out .exit)) ⌝ }
+{
+    let no = ready(table, outgoing.len(), CAPACITY);
+    if no != 0 {
+        return refusal(no);
+    }
+    let short = ticking::output_row(out.len());
+    if short != 0 {
+        return refusal(short);
+    }
+    value(ticking::tick_end(table, outgoing, out))
 }

@@ -145,3 +145,15 @@ pub fn save_all(t: &mut [u64], c: Common, s: Sends, v: Scalars)
     save_sends(&mut t[7..15], s);
     save_scalars(&mut t[15..20], v);
 }
+
+// Copies all of src into dst.
+pub fn copy_words(dst: &mut [u64], src: &[u64])
+    requires { ⌜ length (now dst) ≡ length (now src) ⌝ }
+    ensures { λ _. ⌜ now (dst .exit) ≡ now (src .entry) ⌝ }
+{
+    let mut i: usize = 0;
+    while i < src.len() {
+        dst[i] = src[i];
+        i += 1;
+    }
+}

@@ -11,7 +11,7 @@ use Rattle.laws.specs.Choice.{if}
 use Rattle.laws.specs.History.{Prefix}
 use Rattle.ring.specs.Ring.{capacity}
 use Rattle.wire.specs.Reading.{Decoded, refused, read, decode}
-use Rattle.network.specs.Series.{Series}
+use Rattle.wire.specs.Series.{Series}
 use Rattle.receiving.specs.Receiving.{ackPosition}
 use Rattle.sending.specs.CallLaws.{In}
 use Rattle.endpoint.specs.End.{End, gotOf, reachedOf, hearAnswer}
@@ -57,72 +57,87 @@ pub data Handed (epoch : ℕ) (from : List (List ℕ)) (d : List ℕ) : Type 0 w
   own : In d from → Handed epoch from d
   other : strange epoch (decode d) ≡ true → Handed epoch from d
 
--- one call at x
+-- A CALL AT x was answered with r, and left other bytes in what was lent
+abbrev pub afterGive : Desk → List ℕ → ℤ → List ℕ → List ℕ → Desk
+afterGive x bs r t' o' = record {
+  lent = record { table = t'; outgoing = o'; incoming = x .lent .incoming; marks = x .lent .marks };
+  given = x .given ++ take (countOf r) bs;
+  finished = x .finished;
+  taken = x .taken;
+  reported = x .reported;
+  sent = x .sent;
+  accepted = x .accepted;
+}
+
+abbrev pub afterFinish : Desk → ℤ → List ℕ → Desk
+afterFinish x r t' = record {
+  lent = record { table = t'; outgoing = x .lent .outgoing; incoming = x .lent .incoming; marks = x .lent .marks };
+  given = x .given;
+  finished = after r (x .finished) 1;
+  taken = x .taken;
+  reported = x .reported;
+  sent = x .sent;
+  accepted = x .accepted;
+}
+
+-- d is accepted where it is not refused
+abbrev pub afterHear : Desk → List ℕ → ℤ → List ℕ → List ℕ → List ℕ → Desk
+afterHear x d r t' i' m' = record {
+  lent = record { table = t'; outgoing = x .lent .outgoing; incoming = i'; marks = m' };
+  given = x .given;
+  finished = x .finished;
+  taken = x .taken;
+  reported = x .reported;
+  sent = x .sent;
+  accepted = after r (x .accepted) (d ∷ x .accepted);
+}
+
+-- d is where the bytes were put, and e whether the END was reached
+abbrev pub afterTake : Desk → ℤ → List ℕ → List ℕ → ℕ → Desk
+afterTake x r t' d e = record {
+  lent = record { table = t'; outgoing = x .lent .outgoing; incoming = x .lent .incoming; marks = x .lent .marks };
+  given = x .given;
+  finished = x .finished;
+  taken = x .taken ++ take (countOf r) d;
+  reported = after r (x .reported) (if (eqb e 1) 1 (x .reported));
+  sent = x .sent;
+  accepted = x .accepted;
+}
+
+-- ds are the datagrams in the output
+abbrev pub afterTick : Desk → List (List ℕ) → List ℕ → Desk
+afterTick x ds t' = record {
+  lent = record { table = t'; outgoing = x .lent .outgoing; incoming = x .lent .incoming; marks = x .lent .marks };
+  given = x .given;
+  finished = x .finished;
+  taken = x .taken;
+  reported = x .reported;
+  sent = ds ++ x .sent;
+  accepted = x .accepted;
+}
+
+-- one call at x, as its contract has it; the host finds the datagrams in tick's output by their length fields
 pub data Does (epoch : ℕ) (from : List (List ℕ)) (x : Desk) : Desk → Type 0 where
-  gives : {bs : List ℕ} {r : ℤ} {t' o' : List ℕ} → Gives (x .lent .table) (x .lent .outgoing) bs r t' o'
-      → Does epoch from x (record {
-          lent = record { table = t'; outgoing = o'; incoming = x .lent .incoming; marks = x .lent .marks };
-          given = x .given ++ take (countOf r) bs;
-          finished = x .finished;
-          taken = x .taken;
-          reported = x .reported;
-          sent = x .sent;
-          accepted = x .accepted;
-        })
-  finishes : {r : ℤ} {t' : List ℕ} → Finishes (x .lent .table) r t'
-      → Does epoch from x (record {
-          lent = record { table = t'; outgoing = x .lent .outgoing; incoming = x .lent .incoming; marks = x .lent .marks };
-          given = x .given;
-          finished = after r (x .finished) 1;
-          taken = x .taken;
-          reported = x .reported;
-          sent = x .sent;
-          accepted = x .accepted;
-        })
+  gives : {bs : List ℕ} {r : ℤ} {t' o' : List ℕ} → Gives (x .lent .table) (x .lent .outgoing) bs r t' o' → Does epoch from x (afterGive x bs r t' o')
+  finishes : {r : ℤ} {t' : List ℕ} → Finishes (x .lent .table) r t' → Does epoch from x (afterFinish x r t')
   hears : {d : List ℕ} {r : ℤ} {t' i' m' : List ℕ} → Handed epoch from d → Hears (x .lent .table) (x .lent .incoming) (x .lent .marks) d r t' i' m'
-      → Does epoch from x (record {
-          lent = record { table = t'; outgoing = x .lent .outgoing; incoming = i'; marks = m' };
-          given = x .given;
-          finished = x .finished;
-          taken = x .taken;
-          reported = x .reported;
-          sent = x .sent;
-          accepted = after r (x .accepted) (d ∷ x .accepted);
-        })
-  takes : {d : List ℕ} {e : ℕ} {r : ℤ} {t' d' : List ℕ} {e' : ℕ} → Takes (x .lent .table) (x .lent .incoming) d e r t' d' e'
-      → Does epoch from x (record {
-          lent = record { table = t'; outgoing = x .lent .outgoing; incoming = x .lent .incoming; marks = x .lent .marks };
-          given = x .given;
-          finished = x .finished;
-          taken = x .taken ++ take (countOf r) d';
-          reported = after r (x .reported) (if (eqb e' 1) 1 (x .reported));
-          sent = x .sent;
-          accepted = x .accepted;
-        })
-  -- the host finds the datagrams in the output by their length fields
+      → Does epoch from x (afterHear x d r t' i' m')
+  takes : {d : List ℕ} {e : ℕ} {r : ℤ} {t' d' : List ℕ} {e' : ℕ} → Takes (x .lent .table) (x .lent .incoming) d e r t' d' e' → Does epoch from x (afterTake x r t' d' e')
   ticks : {out : List ℕ} {r : ℤ} {t' out' : List ℕ} {ds : List (List ℕ)} → Ticks (x .lent .table) (x .lent .outgoing) out r t' out' → Series (take (countOf r) out') ds
-      → Does epoch from x (record {
-          lent = record { table = t'; outgoing = x .lent .outgoing; incoming = x .lent .incoming; marks = x .lent .marks };
-          given = x .given;
-          finished = x .finished;
-          taken = x .taken;
-          reported = x .reported;
-          sent = ds ++ x .sent;
-          accepted = x .accepted;
-        })
+      → Does epoch from x (afterTick x ds t')
 
 -- an end after open, which was not refused
 pub data Begins (epoch : ℕ) : Desk → Type 0 where
   opens : {t o i m : List ℕ} {interval : ℕ} {r : ℤ} {t' m' : List ℕ} → Opens t o i m epoch interval r t' m' → r ≡ answerOf 0 0
       → Begins epoch (record {
-          lent = record { table = t'; outgoing = o; incoming = i; marks = m' };
-          given = [];
-          finished = 0;
-          taken = [];
-          reported = 0;
-          sent = [];
-          accepted = [];
-        })
+        lent = record { table = t'; outgoing = o; incoming = i; marks = m' };
+        given = [];
+        finished = 0;
+        taken = [];
+        reported = 0;
+        sent = [];
+        accepted = [];
+      })
 
 -- RUNS of two ends opened in one epoch: any call at either, in any order
 pub data CodeRun (epoch : ℕ) : Desk → Desk → Type 0 where

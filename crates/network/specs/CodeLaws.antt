@@ -2,7 +2,7 @@
 use mathlib.Core.Path.{_≡_, refl, sym, ap, subst, _∙_}
 use mathlib.Core.Bool.{true}
 use mathlib.Core.List.{List, [], _∷_, _++_, append-nil}
-use Prim.Native.Nat.{ℕ, zero, suc, _+_, _-_, _^_, _≤_, _<_}
+use Prim.Native.Nat.{ℕ, zero, suc, _-_, _^_, _<_}
 use native.Mathlib.Decide.{ℕ-discrete}
 use native.Mathlib.Omega.{arith}
 use lib.Dec.{eqb}
@@ -12,25 +12,24 @@ use lib.Seq.{take-append-seam}
 use Rattle.laws.specs.Choice.{if}
 use Rattle.laws.specs.Over.{over}
 use Rattle.ring.specs.Ring.{capacity}
-use Rattle.wire.specs.Datagram.{Message, encode, wire}
+use Rattle.wire.specs.Datagram.{Message, wire}
 use Rattle.wire.specs.Reading.{Decoded, refused, read, decode}
-use Rattle.network.specs.Series.{Series, nothing}
-use Rattle.network.specs.SeriesLaws.{series-only, series-last, wire-none, wire-next, read-whole}
+use Rattle.wire.specs.Series.{Series, nothing}
+use Rattle.wire.specs.SeriesLaws.{series-only, series-last, wire-none, wire-next, read-whole}
 use Rattle.sending.specs.CallLaws.{In, here, there}
-use Rattle.endpoint.specs.End.{End, openOf, giveOf, givenOf, finishOf, gotOf, takeOf, reachedOf, hearAnswer, hearOf, clockOf, sentOf, tickOf, outputOf}
-use Rattle.endpoint.specs.Layout.{Sound, endOf}
+use Rattle.endpoint.specs.End.{End, giveOf, finishOf, takeOf, hearAnswer, hearOf, clockOf, sentOf, tickOf, outputOf}
+use Rattle.endpoint.specs.Layout.{Sound}
 use Rattle.endpoint.specs.Rows.{readyOf}
 use Rattle.endpoint.specs.Answer.{answerOf}
-use Rattle.endpoint.specs.Calls.{Opens, openRow, Gives, Finishes, Hears, Takes, tickRow, Ticks}
-use Rattle.endpoint.specs.EndLaws.{refuses, takes as accepts, hears as hears-end, value-is, refusal-is}
+use Rattle.endpoint.specs.Calls.{Gives, Finishes, Hears, Takes, tickRow, Ticks}
+use Rattle.endpoint.specs.EndLaws.{refuses, takes as accepts, hears as hears-end, output-is, value-is, refusal-is}
 use Rattle.endpoint.specs.EndLaws as end
-use Rattle.network.specs.World.{Entry, Site, World, opened, handed, stray, gives, finishes, takes, Act, arrives, calls, ticks, noted, hear, bytesOf, handOver, strange, arrive, call, leaving, tick, act, Choice, near-acts, far-acts, step, run}
-use Rattle.network.specs.Delivered.{numbersOf, isAck, asks, acksIn, asksIn, Every, nil, cons, Welcome, Delivered}
-use Rattle.network.specs.TmpEnd.{output-is}
+use Rattle.network.specs.World.{Entry, Site, opened, handed, stray, gives, finishes, takes, Act, arrives, calls, ticks, noted, hear, bytesOf, handOver, strange, arrive, call, leaving, tick, act, Choice, near-acts, far-acts, step, run}
+use Rattle.network.specs.Delivered.{numbersOf, acksIn, asksIn, Every, nil, cons, Welcome, Delivered}
 use Rattle.network.specs.Truth.{Numbered, Forth, Back, position, grant, sink, Pair}
 use Rattle.network.specs.RunLaws.{swap, entry-read, act-pair, run-pair}
 use Rattle.network.specs.Statement.{delivered-is-true}
-use Rattle.network.specs.Code.{Lent, Desk, held, countOf, after, Handed, own, other, Does, Begins, opens, CodeRun, begin, near, far, numberIn, ackIn, askIn, numbersAmong, acksAmong, asksAmong, CodeDelivered, CodeBothWays}
+use Rattle.network.specs.Code.{Desk, held, countOf, after, afterGive, afterFinish, afterHear, afterTake, afterTick, Handed, own, other, Does, Begins, opens, CodeRun, begin, near, far, numberIn, ackIn, askIn, numbersAmong, acksAmong, asksAmong, CodeDelivered, CodeBothWays}
 use Rattle.network.specs.Code.Does.{gives as gave, finishes as finished, hears as heard, takes as took, ticks as ticked}
 
 -- ANSWERS
@@ -55,23 +54,23 @@ value-zero zero q p = refl
 value-zero (suc k) q p = let z : negsuc (suc k - 1) ≡ pos 0 = sym (refusal-is (suc k) 0 (λ e. omega arith)) ∙ sym q ∙ p ∙ value-is 0 in let y : _≡_ {A = ℕ} 0 1 = cc in absurd (omega arith)
 
 -- A DESK AND A SITE that are at the same point of a run
-unfoldable allBytes : ℕ → List Entry → List (List ℕ)
+unfoldable pub allBytes : ℕ → List Entry → List (List ℕ)
 allBytes epoch [] = []
 allBytes epoch (d ∷ ds) = bytesOf epoch d ∷ allBytes epoch ds
 
-data Decodes : List (List ℕ) → List Entry → Type 0 where
+pub data Decodes : List (List ℕ) → List Entry → Type 0 where
   none : Decodes [] []
   more : {epoch : ℕ} {d : List ℕ} {e : Entry} {ds : List (List ℕ)} {es : List Entry} → decode d ≡ read epoch (e .number) (e .message) → Decodes ds es → Decodes (d ∷ ds) (e ∷ es)
 
-record Matches (epoch : ℕ) (x : Desk) (s : Site) : Type 0 where
-  sound : Sound (x .lent .table) (x .lent .outgoing) (x .lent .incoming) (x .lent .marks)
-  end : held x ≡ s .end
-  given : x .given ≡ s .given
-  finished : x .finished ≡ s .finished
-  taken : x .taken ≡ s .taken
-  reported : x .reported ≡ s .reported
-  sent : x .sent ≡ allBytes epoch (s .sent)
-  accepted : Decodes (x .accepted) (s .accepted)
+pub record Matches (epoch : ℕ) (x : Desk) (s : Site) : Type 0 where
+  pub sound : Sound (x .lent .table) (x .lent .outgoing) (x .lent .incoming) (x .lent .marks)
+  pub end : held x ≡ s .end
+  pub given : x .given ≡ s .given
+  pub finished : x .finished ≡ s .finished
+  pub taken : x .taken ≡ s .taken
+  pub reported : x .reported ≡ s .reported
+  pub sent : x .sent ≡ allBytes epoch (s .sent)
+  pub accepted : Decodes (x .accepted) (s .accepted)
 
 -- s, in the company of u, has come to a site
 data Reaches (s u : Site) : Site → Type 0 where
@@ -85,15 +84,7 @@ record Follow (epoch : ℕ) (x : Desk) (s u : Site) : Type 0 where
 
 -- GIVE
 follow-give : {epoch : ℕ} {x : Desk} {s : Site} (u : Site) {bs : List ℕ} {r : ℤ} {t' o' : List ℕ} → Matches epoch x s → Gives (x .lent .table) (x .lent .outgoing) bs r t' o'
-    → Follow epoch (record {
-      lent = record { table = t'; outgoing = o'; incoming = x .lent .incoming; marks = x .lent .marks };
-      given = x .given ++ take (countOf r) bs;
-      finished = x .finished;
-      taken = x .taken;
-      reported = x .reported;
-      sent = x .sent;
-      accepted = x .accepted;
-    }) s u
+    → Follow epoch (afterGive x bs r t' o') s u
 unfolding act call
 follow-give {x = x} {s} u {bs} {r} {t'} {o'} v k = elim (ℕ-discrete (readyOf (x .lent .table) (length (x .lent .outgoing)) capacity) 0) [
   | yes z ↦
@@ -132,15 +123,7 @@ follow-give {x = x} {s} u {bs} {r} {t'} {o'} v k = elim (ℕ-discrete (readyOf (
 
 -- FINISH
 follow-finish : {epoch : ℕ} {x : Desk} {s : Site} (u : Site) {r : ℤ} {t' : List ℕ} → Matches epoch x s → Finishes (x .lent .table) r t'
-    → Follow epoch (record {
-      lent = record { table = t'; outgoing = x .lent .outgoing; incoming = x .lent .incoming; marks = x .lent .marks };
-      given = x .given;
-      finished = after r (x .finished) 1;
-      taken = x .taken;
-      reported = x .reported;
-      sent = x .sent;
-      accepted = x .accepted;
-    }) s u
+    → Follow epoch (afterFinish x r t') s u
 unfolding act call
 follow-finish {x = x} {s} u {r} {t'} v k = elim (ℕ-discrete (readyOf (x .lent .table) capacity capacity) 0) [
   | yes z ↦
@@ -183,15 +166,7 @@ unfolding over
 over-first xs out = take-append-seam xs _
 
 follow-take : {epoch : ℕ} {x : Desk} {s : Site} (u : Site) {d : List ℕ} {e : ℕ} {r : ℤ} {t' d' : List ℕ} {e' : ℕ} → Matches epoch x s → Takes (x .lent .table) (x .lent .incoming) d e r t' d' e'
-    → Follow epoch (record {
-      lent = record { table = t'; outgoing = x .lent .outgoing; incoming = x .lent .incoming; marks = x .lent .marks };
-      given = x .given;
-      finished = x .finished;
-      taken = x .taken ++ take (countOf r) d';
-      reported = after r (x .reported) (if (eqb e' 1) 1 (x .reported));
-      sent = x .sent;
-      accepted = x .accepted;
-    }) s u
+    → Follow epoch (afterTake x r t' d' e') s u
 unfolding act call
 follow-take {x = x} {s} u {d} {e} {r} {t'} {d'} {e'} v k = elim (ℕ-discrete (readyOf (x .lent .table) (length (x .lent .incoming)) capacity) 0) [
   | yes z ↦
@@ -238,15 +213,7 @@ noted-match d {ds} clock (accepts z a) q p m = rw (after-value 0 ds (d ∷ ds) p
 
 heard-match : {epoch : ℕ} {x : Desk} {s : Site} {d : List ℕ} {r : ℤ} {t' i' m' : List ℕ} → Matches epoch x s → Hears (x .lent .table) (x .lent .incoming) (x .lent .marks) d r t' i' m'
     → readyOf (x .lent .table) (length (x .lent .incoming)) (length (x .lent .marks)) ≡ 0
-    → Matches epoch (record {
-      lent = record { table = t'; outgoing = x .lent .outgoing; incoming = i'; marks = m' };
-      given = x .given;
-      finished = x .finished;
-      taken = x .taken;
-      reported = x .reported;
-      sent = x .sent;
-      accepted = after r (x .accepted) (d ∷ x .accepted);
-    }) (hear s d)
+    → Matches epoch (afterHear x d r t' i' m') (hear s d)
 unfolding hear
 heard-match {x = x} {s} {d} v k z =
     let g = k .done z (x .lent .outgoing) (v .sound) in
@@ -287,15 +254,7 @@ brings {epoch} {y} {s} {u} {d} w e (other t) =
 
 follow-hear : {epoch : ℕ} {x y : Desk} {s u : Site} {d : List ℕ} {r : ℤ} {t' i' m' : List ℕ} → Matches epoch x s → Matches epoch y u → u .end .epoch ≡ epoch → Handed epoch (y .sent) d
     → Hears (x .lent .table) (x .lent .incoming) (x .lent .marks) d r t' i' m'
-    → Follow epoch (record {
-      lent = record { table = t'; outgoing = x .lent .outgoing; incoming = i'; marks = m' };
-      given = x .given;
-      finished = x .finished;
-      taken = x .taken;
-      reported = x .reported;
-      sent = x .sent;
-      accepted = after r (x .accepted) (d ∷ x .accepted);
-    }) s u
+    → Follow epoch (afterHear x d r t' i' m') s u
 follow-hear {epoch} {x} {y} {s} {u} {d} {r} v w e h k = elim (ℕ-discrete (readyOf (x .lent .table) (length (x .lent .incoming)) (length (x .lent .marks))) 0) [
   | yes z ↦
       let b = brings {s = s} w e h in
@@ -358,15 +317,7 @@ tick-sent {epoch} {s} {u} e v w a =
 follow-tick : {epoch : ℕ} {x : Desk} {s u : Site} {out : List ℕ} {r : ℤ} {t' out' : List ℕ} {ds : List (List ℕ)} → epoch < 2 ^ 64 → Pair epoch s u → Matches epoch x s
     → Ticks (x .lent .table) (x .lent .outgoing) out r t' out'
     → Series (take (countOf r) out') ds
-    → Follow epoch (record {
-      lent = record { table = t'; outgoing = x .lent .outgoing; incoming = x .lent .incoming; marks = x .lent .marks };
-      given = x .given;
-      finished = x .finished;
-      taken = x .taken;
-      reported = x .reported;
-      sent = ds ++ x .sent;
-      accepted = x .accepted;
-    }) s u
+    → Follow epoch (afterTick x ds t') s u
 unfolding act tick
 follow-tick {epoch} {x} {s} {u} {out} {r} {t'} {out'} {ds} e w v k a = elim (ℕ-discrete (tickRow (x .lent .table) (length (x .lent .outgoing)) (length out)) 0) [
   | yes z ↦
@@ -415,12 +366,12 @@ follow e p v w (heard h k) = follow-hear v w (p .there .epoch-is) h k
 follow {u = u} e p v w (took k) = follow-take u v k
 follow e p v w (ticked k a) = follow-tick e p v k a
 
-record Follows (epoch : ℕ) (x y : Desk) : Type 0 where
-  r : ℕ
-  s : ℕ
-  choices : List Choice
-  near-matches : Matches epoch x (run epoch r s choices .near)
-  far-matches : Matches epoch y (run epoch r s choices .far)
+pub record Follows (epoch : ℕ) (x y : Desk) : Type 0 where
+  pub r : ℕ
+  pub s : ℕ
+  pub choices : List Choice
+  pub near-matches : Matches epoch x (run epoch r s choices .near)
+  pub far-matches : Matches epoch y (run epoch r s choices .far)
 
 begin-matches : {epoch : ℕ} {x : Desk} → Begins epoch x → (interval : ℕ) × Matches epoch x (opened epoch interval)
 unfolding opened allBytes
@@ -442,7 +393,8 @@ unfolding run step
 far-reaches r s cs stays m w = record { r = r; s = s; choices = cs; near-matches = m; far-matches = w }
 far-reaches r s cs (acts a) m w = record { r = r; s = s; choices = far-acts a ∷ cs; near-matches = m; far-matches = w }
 
-follows : {epoch : ℕ} {x y : Desk} → epoch < 2 ^ 64 → CodeRun epoch x y → Follows epoch x y
+-- each run of the code is one of the model
+pub follows : {epoch : ℕ} {x y : Desk} → epoch < 2 ^ 64 → CodeRun epoch x y → Follows epoch x y
 unfolding run
 follows e (begin a b) =
     let k = begin-matches a in

@@ -2,7 +2,7 @@
 use mathlib.Core.Path.{_≡_, refl, sym, ap, _∙_}
 use mathlib.Core.Logic.{⊎-elim}
 use mathlib.Core.List.{List, [], _∷_, _++_, append-nil}
-use Prim.Native.Nat.{ℕ, zero, suc, _+_, _-_, _^_, _≤_, _<_, min}
+use Prim.Native.Nat.{ℕ, zero, suc, _+_, _-_, _≤_, _<_}
 use native.Mathlib.Omega.{arith}
 use lib.Dec.{eqb}
 use lib.ListN.{length, take, drop, length-append, length-take, length-drop, take-append-drop}
@@ -14,29 +14,27 @@ use Rattle.laws.specs.History.{At, Says}
 use Rattle.laws.specs.History.At.{here, there}
 use Rattle.laws.specs.History.Says.{none as said, more as says-more}
 use Rattle.laws.specs.HistoryLaws.{says-grow}
-use Rattle.ring.specs.Ring.{capacity}
-use Rattle.wire.specs.Datagram.{ceiling, Message, DATA, ACK, PROBE, Sendable}
+use Rattle.wire.specs.Datagram.{ceiling, Message, DATA, ACK, Sendable}
 use Rattle.wire.specs.Datagram.Sendable.{a-DATA, an-ACK, a-PROBE}
-use Rattle.receiving.specs.Receiving.{Receiving, hearOf, lowOf, gotOf, takeOf, endedOf, ackPosition, ackCredit, refusalOf}
+use Rattle.receiving.specs.Receiving.{Receiving, hearOf, gotOf, takeOf, endedOf, ackPosition, ackCredit, refusalOf}
 use Rattle.receiving.specs.Receiving as receiving
 use Rattle.receiving.specs.Truth.{ReceivingOK}
 use Rattle.receiving.specs.TruthLaws.{says-length, says-whole}
 use Rattle.receiving.specs.AckLaws.{taken-low, position-low, ack-says, position-hear, position-take, limit-hear, limit-take}
 use Rattle.receiving.specs.ReceivingLaws.{receiving-start, receiving-give, receiving-close, receiving-hear, receiving-take, ended-closed, ended-all, ack-true, grant-true, never-refused}
 use Rattle.sending.specs.declared.Tick.{Tick}
-use Rattle.sending.specs.Sending.{Sending}
 use Rattle.sending.specs.Sending as sending
 use Rattle.sending.specs.Giving.{takenOf, giveOf, finishOf}
 use Rattle.sending.specs.Acking.{ackOf}
 use Rattle.sending.specs.Steps.{sendOf}
-use Rattle.sending.specs.True.{TrueData, True, data-true, probe-true, Each, each-none, each-more, SendingOK}
+use Rattle.sending.specs.True.{TrueData, True, data-true, probe-true, Each, each-none, each-more}
 use Rattle.sending.specs.TrueLaws.{each-append, each-map, true-grow, true-up, true-finish, sending-start, sending-up, sending-give, sending-finish, sending-ack, sending-send, send-true}
 use Rattle.sending.specs.CallLaws.{given-is, taken-closed, finished-is, ack-keeps, tick-keeps}
-use Rattle.sending.specs.OrderLaws.{taken-end, next-given}
+use Rattle.sending.specs.OrderLaws.{taken-end}
 use Rattle.sending.specs.TickLaws.{next-send}
 use Rattle.network.specs.World.{Entry, leaving}
 use Rattle.network.specs.Delivered.{Every, nil, cons}
-use Rattle.sending.specs.NetworkLaws.{fresh-is, Below, data-below, probe-below, below-up, send-below}
+use Rattle.sending.specs.NetworkLaws.{fresh-is, Below, data-below, below-up, send-below}
 use Rattle.network.specs.Truth.{Source, Sink, position, grant, gone, gone-end, Forth, forth, an-ack, Back, back, a-data, a-probe, Flow}
 
 -- EVERY

@@ -6,9 +6,6 @@ pub mod Truth
 pub mod FlowLaws
 pub mod RunLaws
 pub mod Statement
-pub mod Series
-pub mod SeriesLaws
-pub mod TmpEnd
 pub mod Code
 pub mod CodeLaws
 pub mod Samples

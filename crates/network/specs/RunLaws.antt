@@ -1,47 +1,30 @@
 -- Both ends and both directions, choice by choice, and what is delivered is true. Assumes nothing.
-use mathlib.Core.Path.{_≡_, refl, sym, ap, _∙_}
-use mathlib.Core.Bool.{Bool, true, false, not}
-use mathlib.Core.Logic.{⊎-elim}
-use mathlib.Core.List.{List, [], _∷_, _++_, List·Memᴰ}
-use Prim.Native.Nat.{ℕ, zero, suc, _+_, _-_, _^_, _≤_, _<_, min}
-use native.Mathlib.Decide.{ℕ-discrete, decLt}
+use mathlib.Core.Path.{_≡_, refl, sym, _∙_}
+use mathlib.Core.Bool.{true, false, not}
+use mathlib.Core.List.{List, [], _∷_, _++_}
+use Prim.Native.Nat.{ℕ, zero, suc, _+_, _-_, _^_, _≤_, _<_}
 use native.Mathlib.Omega.{arith}
 use lib.Dec.{eqb}
-use lib.ListN.{length, take, drop, length-append, length-take, take-append-drop}
-use lib.Seq.{take-append-le, take-all}
+use lib.ListN.{length}
 use borrow.Author.Tests.{eq-eqb}
-use Rattle.laws.specs.Choice.{if, if-case}
-use Rattle.laws.specs.Split.{split}
-use Rattle.laws.specs.History.{Says, Prefix}
-use Rattle.laws.specs.HistoryLaws.{says-prefix}
-use Rattle.ring.specs.Ring.{capacity}
-use Rattle.wire.specs.Datagram.{ceiling, Message, DATA, ACK, PROBE, Sendable, encode}
+use Rattle.laws.specs.Choice.{if-case}
+use Rattle.wire.specs.Datagram.{Message, DATA, ACK, PROBE, Sendable}
 use Rattle.wire.specs.Reading.{Decoded, refused, read, decode}
 use Rattle.wire.specs.RoundTripLaws.{decode-encode}
-use Rattle.window.specs.Window.{width, Window, seenOf, verdictOf}
-use Rattle.window.specs.WindowLaws.{verdict-above, verdict-old, verdict-new, verdict-again}
-use Rattle.window.specs.History.{Reached}
+use Rattle.window.specs.Window.{verdictOf}
 use Rattle.window.specs.History.Reached.{none as unmarked, more as marked}
-use Rattle.window.specs.HistoryLaws.{never-again}
-use Rattle.receiving.specs.Receiving.{Receiving, lowOf, ackPosition, ackCredit}
-use Rattle.receiving.specs.Receiving as receiving
-use Rattle.receiving.specs.TruthLaws.{says-whole, says-length}
-use Rattle.receiving.specs.AckLaws.{taken-low, low-room, got-length}
-use Rattle.receiving.specs.ReceivingLaws.{receiving-take, low-true, ack-true, ended-when}
+use Rattle.receiving.specs.Receiving.{Receiving}
 use Rattle.sending.specs.True.{True, data-true, probe-true, Each, each-none, each-more}
 use Rattle.sending.specs.TrueLaws.{each-append, each-map, send-true}
-use Rattle.sending.specs.Steps.{sendOf}
 use Rattle.sending.specs.Sending.{Sending}
-use Rattle.endpoint.specs.End.{End, openOf, giveOf, givenOf, finishOf, gotOf, takeOf, reachedOf, hearAnswer, hearOf, clockOf, sentOf, tickOf}
-use Rattle.network.specs.World.{Entry, Site, World, opened, Arrival, handed, stray, Call, gives, finishes, takes, Act, arrives, calls, ticks, noted, hear, bytesOf, handOver, strange, arrive, call, leaving, tick, act, Choice, near-acts, far-acts, step, run}
-use Rattle.network.specs.Delivered.{Distinct, numbersOf, isAck, asks, acksIn, asksIn, Every, nil, cons, Welcome, Delivered, BothWays}
-use Rattle.network.specs.Delivered.Distinct.{none as no-number, more as one-more}
-use Rattle.network.specs.Delivered.Welcome.{accepted, too-old, taken-before}
-use Rattle.endpoint.specs.EndLaws.{Sides, open-is, give-sides, given-is, finish-sides, take-sides, got-is, reached-is, Marked, Accepts, accepts-data, accepts-ack, accepts-probe, Hears, hears, Placed, placed-data, placed-ack, placed-probe, answer-number, Acks, no-ack, one-ack, Ticked, tick-is}
+use Rattle.endpoint.specs.End.{End, clockOf, sentOf}
+use Rattle.network.specs.World.{Entry, Site, opened, Arrival, handed, stray, Call, gives, finishes, takes, Act, arrives, calls, ticks, noted, hear, bytesOf, handOver, strange, arrive, call, leaving, tick, act, Choice, near-acts, far-acts, step, run}
+use Rattle.network.specs.Delivered.{numbersOf, isAck, asks, acksIn, asksIn, Every, nil, cons}
+use Rattle.network.specs.Delivered.Welcome.{accepted}
+use Rattle.endpoint.specs.EndLaws.{Sides, open-is, give-sides, given-is, finish-sides, take-sides, got-is, reached-is, Marked, Accepts, accepts-data, accepts-ack, accepts-probe, Hears, hears, Acks, no-ack, one-ack, tick-is}
 use Rattle.endpoint.specs.EndLaws.Hears.{refuses, takes as accepts}
-use Rattle.receiving.specs.NetworkLaws.{past-end}
-use Rattle.network.specs.Truth.{Source, Sink, source, sink, position, grant, gone, gone-end, Forth, forth, an-ack, Back, back, a-data, a-probe, Flow, Numbered, Own, Pair}
-use Rattle.network.specs.FlowLaws.{every-map, every-append, every-leaving, next-most, flow-give, flow-finish, flow-ack, flow-send, flow-hear, flow-take, flow-acks, taken-says, back-now, back-true, flow-start, data-placed, ack-placed, forth-sendable, ack-sendable}
+use Rattle.network.specs.Truth.{source, sink, position, grant, Forth, forth, an-ack, Back, back, Flow, Numbered, Own, Pair}
+use Rattle.network.specs.FlowLaws.{every-map, every-append, flow-give, flow-finish, flow-ack, flow-send, flow-hear, flow-take, flow-acks, back-now, back-true, flow-start, forth-sendable, ack-sendable}
 
 -- THE OTHER WAY ROUND
 pub swap : {epoch : ℕ} {x y : Site} → Pair epoch x y → Pair epoch y x

@@ -1,11 +1,10 @@
 -- 03 §1: a run, computed: the network loses, repeats, reorders and digs out an old epoch, and the bytes and the END still come over.
 use mathlib.Core.Path.{_≡_, refl}
-use mathlib.Core.Bool.{Bool, true, not}
-use mathlib.Core.List.{List, [], _∷_, _++_}
+use mathlib.Core.List.{List, [], _∷_}
 use Prim.Native.Nat.{ℕ}
 use lib.ListN.{length}
 use Rattle.laws.specs.Rows.{when, _orElse_, branch}
-use Rattle.wire.specs.Datagram.{Message, DATA, ACK, PROBE, encode}
+use Rattle.wire.specs.Datagram.{DATA, ACK, encode}
 use Rattle.wire.specs.Datagram as datagram
 use Rattle.wire.specs.Reading as reading
 use Rattle.window.specs.Window as window
@@ -15,7 +14,7 @@ use Rattle.sending.specs.Giving as giving
 use Rattle.sending.specs.Acking as acking
 use Rattle.sending.specs.Steps as steps
 use Rattle.endpoint.specs.End as end
-use Rattle.network.specs.World.{Site, World, handed, stray, gives, finishes, takes, arrives, calls, ticks, Choice, near-acts, far-acts, run}
+use Rattle.network.specs.World.{World, handed, stray, gives, finishes, takes, arrives, calls, ticks, Choice, near-acts, far-acts, run}
 use Rattle.network.specs.World as world
 use Rattle.network.specs.Delivered.{numbersOf}
 

@@ -1,8 +1,8 @@
 -- Statement B: what is delivered is true, after every run, both ways. Assumes nothing.
-use mathlib.Core.Path.{_≡_, refl, sym, ap, _∙_}
+use mathlib.Core.Path.{_≡_, sym, ap, _∙_}
 use mathlib.Core.Logic.{⊎-elim}
-use mathlib.Core.List.{List, [], _∷_, _++_, append-nil, List·Memᴰ}
-use Prim.Native.Nat.{ℕ, zero, suc, _+_, _-_, _^_, _≤_, _<_, min}
+use mathlib.Core.List.{List, [], _++_, append-nil}
+use Prim.Native.Nat.{ℕ, _-_, _^_, _<_}
 use native.Mathlib.Decide.{ℕ-discrete, decLt}
 use native.Mathlib.Omega.{arith}
 use lib.ListN.{length, take, drop, length-append, length-take, take-append-drop}
@@ -18,20 +18,20 @@ use Rattle.window.specs.WindowLaws.{verdict-above, verdict-old, verdict-new, ve
 use Rattle.window.specs.History.{Reached}
 use Rattle.window.specs.History.Reached.{none as unmarked, more as marked}
 use Rattle.window.specs.HistoryLaws.{never-again}
-use Rattle.receiving.specs.Receiving.{Receiving, lowOf, ackPosition}
+use Rattle.receiving.specs.Receiving.{lowOf}
 use Rattle.receiving.specs.Receiving as receiving
-use Rattle.receiving.specs.TruthLaws.{says-whole, says-length}
-use Rattle.receiving.specs.AckLaws.{taken-low, low-room, got-length, position-low}
-use Rattle.receiving.specs.ReceivingLaws.{receiving-take, low-true, ack-true, ended-when}
-use Rattle.endpoint.specs.End.{End, gotOf, reachedOf, hearAnswer}
-use Rattle.network.specs.World.{Entry, Site, World, bytesOf, Choice, run}
+use Rattle.receiving.specs.TruthLaws.{says-whole}
+use Rattle.receiving.specs.AckLaws.{taken-low, low-room, got-length}
+use Rattle.receiving.specs.ReceivingLaws.{receiving-take, low-true, ended-when}
+use Rattle.endpoint.specs.End.{gotOf, hearAnswer}
+use Rattle.network.specs.World.{Entry, Site, bytesOf, Choice, run}
 use Rattle.network.specs.Rounds.{Round, allChoices, play}
-use Rattle.network.specs.Delivered.{Distinct, numbersOf, Every, nil, cons, Welcome, Delivered, BothWays}
+use Rattle.network.specs.Delivered.{Distinct, Every, nil, cons, Welcome, Delivered, BothWays}
 use Rattle.network.specs.Delivered.Distinct.{none as no-number, more as one-more}
 use Rattle.network.specs.Delivered.Welcome.{accepted, too-old, taken-before}
 use Rattle.endpoint.specs.EndLaws.{got-is, reached-is, Placed, placed-data, placed-ack, placed-probe, answer-number}
 use Rattle.receiving.specs.NetworkLaws.{past-end}
-use Rattle.network.specs.Truth.{Source, Sink, source, sink, position, grant, gone, gone-end, Forth, forth, an-ack, Back, back, a-data, a-probe, Flow, Numbered, Own, Pair}
+use Rattle.network.specs.Truth.{Source, Sink, sink, position, grant, Forth, forth, Back, back, a-data, a-probe, Flow, Numbered, Pair}
 use Rattle.network.specs.FlowLaws.{taken-says, data-placed, ack-placed}
 use Rattle.network.specs.RunLaws.{swap, Honest, entry-read, run-pair}
 

@@ -10,8 +10,7 @@ use Rattle.receiving.specs.Receiving.{Receiving, ackPosition, ackCredit}
 use Rattle.receiving.specs.Truth.{ReceivingOK}
 use Rattle.sending.specs.Sending.{Sending}
 use Rattle.sending.specs.True.{True, SendingOK}
-use Rattle.endpoint.specs.End.{End}
-use Rattle.network.specs.World.{Entry, Site, World}
+use Rattle.network.specs.World.{Entry, Site}
 use Rattle.network.specs.Delivered.{numbersOf, acksIn, asksIn, Every}
 use Rattle.sending.specs.NetworkLaws.{Below}
 

@@ -5,7 +5,7 @@ use Prim.Native.Nat.{ℕ, zero, suc, _+_}
 use lib.Dec.{eqb}
 use lib.ListN.{length, take}
 use Rattle.laws.specs.Choice.{if}
-use Rattle.wire.specs.Datagram.{Message, DATA, ACK, PROBE, encode}
+use Rattle.wire.specs.Datagram.{Message, encode}
 use Rattle.wire.specs.Reading.{Decoded, refused, read, decode}
 use Rattle.endpoint.specs.End.{End, openOf, giveOf, givenOf, finishOf, gotOf, takeOf, reachedOf, hearAnswer, hearOf, clockOf, sentOf, tickOf}
 

@@ -1,7 +1,7 @@
 -- An ACK's position beyond the lowest missing one: then every byte and the END have arrived. Assumes nothing.
 use mathlib.Core.Path.{_≡_}
 use mathlib.Core.List.{List}
-use Prim.Native.Nat.{ℕ, _+_, _≤_, _<_}
+use Prim.Native.Nat.{ℕ, _+_, _<_}
 use native.Mathlib.Omega.{arith}
 use lib.ListN.{length}
 use Rattle.receiving.specs.Receiving.{Receiving, lowOf, endAt, ackPosition}

@@ -1,10 +1,10 @@
 -- What a tick sends ends at the next position or before: what was sent is counted by it. Assumes nothing.
 use mathlib.Core.Path.{_≡_, refl}
 use mathlib.Core.Bool.{_&&_}
-use mathlib.Core.List.{List, [], _++_}
-use Prim.Native.Nat.{ℕ, zero, suc, _+_, _-_, _≤_, _<_, min}
+use mathlib.Core.List.{List, []}
+use Prim.Native.Nat.{ℕ, zero, suc, _+_, _-_, _≤_, _<_}
 use native.Mathlib.Omega.{arith}
-use lib.Dec.{eqb, leb, ltb}
+use lib.Dec.{ltb}
 use lib.ListN.{length, length-take}
 use borrow.Author.Tests.{ltb-true}
 use Rattle.laws.specs.Choice.{if-case, ltb-case}
@@ -13,12 +13,12 @@ use Rattle.wire.specs.Datagram.{Message, DATA, PROBE}
 use Rattle.sending.specs.declared.Tick.{Tick}
 use Rattle.sending.specs.declared.Line.{Line}
 use Rattle.sending.specs.Sending.{segmentsMost, Segment, Probed, Sending, fresh, lineOf, startOf, partOf, sizeOf, dataOf}
-use Rattle.sending.specs.Steps.{Resent, dueOf, againOf, resendOf, Cut, cutTo, cutOne, cutOf, cutsOf, agoOf, probesOf, Work, probeOf, stepsOf, sendOf}
+use Rattle.sending.specs.Steps.{Resent, dueOf, againOf, resendOf, Cut, cutTo, cutOne, cutOf, cutsOf, probesOf, Work, probeOf, stepsOf, sendOf}
 use Rattle.sending.specs.Buffers.{Chain, Orderly}
 use Rattle.sending.specs.Buffers.Chain.{none, one}
 use Rattle.sending.specs.True.{Each}
 use Rattle.sending.specs.True.Each.{each-none, each-more}
-use Rattle.sending.specs.StepLaws.{and-left, and-right}
+use Rattle.sending.specs.StepLaws.{and-right}
 use Rattle.sending.specs.OrderLaws.{Kept, kept-cut, kept-resend, cut-ends, begun, probe-next}
 use Rattle.sending.specs.TrueLaws.{each-append, each-map}
 use Rattle.sending.specs.TickLaws.{next-send}

@@ -40,7 +40,7 @@ pub record Room (w : Tick) (e : Stamp) (l : Line) (p : Row) (out ring ends times
   pub given : l .given ≤ ceiling
   pub oldest : p .oldest < segmentsMost
   pub kept : p .kept ≤ segmentsMost
-  pub now : w .now < ceiling
+  pub now : w .now ≤ ceiling
   pub most : w .allowed ≤ datagramsMost
   pub numbers : e .number + w .allowed < ceiling
   pub out-size : datagramMost * w .allowed ≤ length out

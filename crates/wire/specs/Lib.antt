@@ -4,3 +4,5 @@ pub mod Reading
 pub mod ReadingLaws
 pub mod FormLaws
 pub mod RoundTripLaws
+pub mod Series
+pub mod SeriesLaws

@@ -3,9 +3,8 @@ use mathlib.Core.Path.{_≡_}
 use mathlib.Core.List.{List, [], _∷_, _++_}
 use Prim.Native.Nat.{ℕ, _+_}
 use lib.ListN.{length}
-use Rattle.wire.specs.declared.Header.{Header}
 use Rattle.wire.specs.Datagram.{headSize}
 use Rattle.wire.specs.Reading.{fieldsOf}
 
 -- the bytes, and the datagrams in them, the newest first
 pub data Series : List ℕ → List (List ℕ) → Type 0 where

@@ -1,16 +1,15 @@
 -- Bytes are a series of datagrams in one way only, and what leaves is a series. Assumes nothing.
 use mathlib.Core.Path.{_≡_, refl, sym, ap, _∙_}
 use mathlib.Core.List.{List, [], _∷_, _++_, append-nil, append-assoc}
-use Prim.Native.Nat.{ℕ, _+_, _≤_, _<_}
+use Prim.Native.Nat.{ℕ, _+_, _≤_}
 use native.Mathlib.Omega.{arith}
-use lib.ListN.{length, take, drop, getD, length-append, List·getD-append}
+use lib.ListN.{length, take, drop, length-append, List·getD-append}
 use lib.Seq.{take-at, drop-at}
-use Rattle.wire.specs.declared.Header.{Header}
 use Rattle.wire.specs.Datagram.{headSize, Message, encode, wire}
-use Rattle.wire.specs.Reading.{num, fieldsOf, read, decode}
+use Rattle.wire.specs.Reading.{fieldsOf, read, decode}
 use Rattle.wire.specs.ReadingLaws.{num-same}
 use Rattle.wire.specs.RoundTripLaws.{decode-was}
-use Rattle.network.specs.Series.{Series, nothing, first}
+use Rattle.wire.specs.Series.{Series, nothing, first}
 
 -- the length field of the first datagram
 pub length-field : (d s : List ℕ) → headSize ≤ length d → fieldsOf (d ++ s) .length ≡ fieldsOf d .length
@@ -18,9 +17,10 @@ unfolding fieldsOf
 length-field d s h = num-same d (d ++ s) 2 2 (λ j lo hi. List·getD-append d s 0 j (omega arith))
 
 same-parts : (d e s t : List ℕ) → d ++ s ≡ e ++ t → length d ≡ length e → (d ≡ e) × (s ≡ t)
-same-parts d e s t q l =
-    (sym (take-at d s (length e) l) ∙ ap (λ (x : List ℕ). take (length e) x) q ∙ take-at e t (length e) refl,
-    sym (drop-at d s (length e) l) ∙ ap (λ (x : List ℕ). drop (length e) x) q ∙ drop-at e t (length e) refl)
+same-parts d e s t q l = (
+  sym (take-at d s (length e) l) ∙ ap (λ (x : List ℕ). take (length e) x) q ∙ take-at e t (length e) refl,
+  sym (drop-at d s (length e) l) ∙ ap (λ (x : List ℕ). drop (length e) x) q ∙ drop-at e t (length e) refl,
+)
 
 -- in one way only
 pub series-only : {s t : List ℕ} {ds es : List (List ℕ)} → Series s ds → Series t es → s ≡ t → ds ≡ es
