@@ -85,7 +85,7 @@ unfolding startOf
 chain-none none h = refl
 chain-none (one l m c) h = let u = chain-up c in absurd (omega arith)
 
-chain-above : {acked given : ℕ} {g : Segment} {gs : List Segment} → Chain acked given gs → In g gs → acked < g .to
+pub chain-above : {acked given : ℕ} {g : Segment} {gs : List Segment} → Chain acked given gs → In g gs → acked < g .to
 chain-above (one l m c) here = let u = chain-up c in omega arith
 chain-above (one l m c) (there i) = chain-above c i
 

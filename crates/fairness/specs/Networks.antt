@@ -33,7 +33,7 @@ isProbe (PROBE p) = true
 unfoldable pub sentIn : Plan → Side → ℕ → List Entry
 sentIn σ d n = take (length (siteAt σ d (suc n) .sent) - length (siteAt σ d n .sent)) (siteAt σ d (suc n) .sent)
 
--- 1 where a datagram of that kind is among them. No tick sends a segment, an ACK or a PROBE twice
+-- 1 where a datagram of that kind is among them. A tick counts once, which asks no more of a network: L ticks with sendings have L sendings in a row
 unfoldable pub anyOf : (Message → Bool) → List Entry → ℕ
 anyOf f [] = 0
 anyOf f (e ∷ es) = if (f (e .message)) 1 (anyOf f es)

@@ -6,16 +6,17 @@ use native.Mathlib.Omega.{arith}
 use Rattle.wire.specs.Datagram.{payloadMost}
 use Rattle.receiving.specs.Receiving.{ackPosition}
 use Rattle.sending.specs.Sending.{Segment}
+use Rattle.sending.specs.CallLaws.{In}
 use Rattle.sending.specs.TickLaws.{Last, Waits}
 use Rattle.fairness.specs.Bounds.{handTicks, dropTicks}
 use Rattle.fairness.specs.Timed.{Plan, Side, other, intervalOf, siteAt, endAt}
 use Rattle.fairness.specs.Networks.{FairNetwork, Going, Takers, GivenAtStart}
 use Rattle.fairness.specs.TurnsLaws.{here-by, known-by}
-use Rattle.fairness.specs.StateLaws.{positionAt, position-up, acked-up}
+use Rattle.fairness.specs.StateLaws.{orderly-at, positionAt, position-up, acked-up}
 use Rattle.fairness.specs.OldestLaws.{Holds}
 use Rattle.fairness.specs.SegmentLaws.{behind, segment-turns}
 use Rattle.fairness.specs.CutsLaws.{Mark, start, inner, whole}
-use Rattle.fairness.specs.AllLaws.{bytesOf, wholeOf, cuts-at, acked-whole, Next, all-gone, oldest-ends, last-ends, next-end, handed-up}
+use Rattle.fairness.specs.AllLaws.{bytesOf, wholeOf, cuts-at, chain-above, acked-whole, Next, all-gone, oldest-ends, last-ends, next-end, handed-up}
 use Rattle.fairness.specs.CreditLaws.{takes-grants, waits-held, credit-turns}
 
 -- a segment that is the oldest kept
@@ -36,6 +37,10 @@ pub acknowledged : (σ : Plan) (d : Side) (L D T t : ℕ) (g : Segment) → Fair
 acknowledged σ d L D T t g f v k l =
     let a = endAt σ d t .sending .acked in
     known-by (f .some) (segment-turns σ d a (g .to) t T D v (f .most) (oldest-holds σ d t g k)) (f .segments d a (g .to)) (f .acks (other d)) l
+
+-- what is dropped is not kept: all that is kept ends above acked
+pub kept-above : (σ : Plan) (d : Side) (n : ℕ) {h : Segment} → In h (endAt σ d n .sending .kept) → endAt σ d n .sending .acked < h .to
+kept-above σ d n i = chain-above (orderly-at σ d n .chain) i
 
 -- CREDIT KNOWN: the host takes at least one byte in tick t, and when that is over the peer has bytes waiting, nothing kept and no room.
 -- L * L * R + (L + 1) * D ticks later the peer knows of a limit higher than it had
