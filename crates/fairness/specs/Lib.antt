@@ -8,6 +8,7 @@ pub mod TurnsLaws
 pub mod TimerLaws
 pub mod Timed
 pub mod TimedLaws
+pub mod PlanLaws
 pub mod Networks
 pub mod SideLaws
 pub mod StateLaws
