@@ -1,8 +1,8 @@
 -- All is given at the start: one segment after the other is the oldest, until nothing is left. Assumes nothing.
 use mathlib.Core.Path.{_≡_, refl, ap, sym, _∙_}
-use mathlib.Core.List.{List, [], _∷_, _++_}
-use Prim.Native.Nat.{ℕ, zero, suc, _+_, _-_, _*_, _^_, _≤_, _<_, min}
-use native.Mathlib.Decide.{ℕ-discrete, decLt, decLe}
+use mathlib.Core.List.{List, [], _∷_}
+use Prim.Native.Nat.{ℕ, zero, suc, _+_, _^_, _≤_, _<_}
+use native.Mathlib.Decide.{decLt}
 use native.Mathlib.Omega.{arith}
 use lib.ListN.{length, length-take}
 use Rattle.ring.specs.Ring.{capacity}
@@ -11,23 +11,23 @@ use Rattle.receiving.specs.Receiving.{lowOf, ackPosition}
 use Rattle.receiving.specs.TruthLaws.{says-length, says-whole}
 use Rattle.receiving.specs.NetworkLaws.{past-end}
 use Rattle.sending.specs.declared.Tick.{Tick}
-use Rattle.sending.specs.Sending.{segmentsMost, Segment, Sending, lineOf, startOf}
+use Rattle.sending.specs.Sending.{Segment, Sending, lineOf, startOf}
 use Rattle.sending.specs.Sending as sending
 use Rattle.sending.specs.Steps.{sendOf}
 use Rattle.sending.specs.Buffers.{Chain, Orderly}
 use Rattle.sending.specs.Buffers.Chain.{none, one}
 use Rattle.sending.specs.CallLaws.{In, here, there, tick-keeps, TickKeeps}
 use Rattle.sending.specs.OrderLaws.{chain-up, acked-next}
-use Rattle.sending.specs.TickLaws.{next-send, Last, last-has, has-in, resentOf, resent-few, NewSegment, cut-new, cut-last}
+use Rattle.sending.specs.TickLaws.{next-send, Last, last-has, has-in, resent-few, NewSegment, cut-new, cut-last}
 use Rattle.endpoint.specs.End.{End, openOf}
 use Rattle.network.specs.FlowLaws.{taken-says}
 use Rattle.fairness.specs.TakenLaws.{pair-at}
-use Rattle.fairness.specs.Timed.{Plan, Side, other, intervalOf, siteAt, endAt}
+use Rattle.fairness.specs.Timed.{Plan, Side, other, siteAt, endAt}
 use Rattle.fairness.specs.Networks.{Going, GivenAtStart}
 use Rattle.fairness.specs.TimedLaws.{readyAt}
-use Rattle.fairness.specs.SideLaws.{Works, moves-acked, moves-limit, moves-next}
-use Rattle.fairness.specs.StateLaws.{end-start, works-at, work, ticks-at, orderly-at, orderly-ready, ready-next, limit-up, acked-up, allowed-at}
-use Rattle.fairness.specs.CutsLaws.{Mark, start, inner, whole, Marks, no-marks, Cuts, mark-in, moves-cuts, Filled, cuts-send}
+use Rattle.fairness.specs.SideLaws.{moves-limit, moves-next}
+use Rattle.fairness.specs.StateLaws.{end-start, works-at, work, ticks-at, orderly-at, orderly-ready, ready-next, limit-up, allowed-at}
+use Rattle.fairness.specs.CutsLaws.{Mark, start, inner, whole, no-marks, Cuts, mark-in, moves-cuts, Filled, cuts-send}
 
 -- how many bytes there are, and the end of the stream
 unfoldable pub bytesOf : Plan → Side → ℕ

@@ -1,42 +1,35 @@
 -- What an accepted datagram does: a segment from acked on is in hand, each DATA and PROBE is answered in its tick, and an ACK is what its end would say. Assumes nothing.
-use mathlib.Core.Path.{_≡_, refl, ap, sym, _∙_}
-use mathlib.Core.Bool.{Bool, true, false, _&&_}
+use mathlib.Core.Path.{_≡_, refl}
+use mathlib.Core.Bool.{true, _&&_}
 use mathlib.Core.Logic.{⊎-elim}
 use mathlib.Core.List.{List, [], _∷_, _++_}
-use Prim.Native.Nat.{ℕ, zero, suc, _+_, _-_, _^_, _≤_, _<_}
-use native.Mathlib.Decide.{decLt}
+use Prim.Native.Nat.{ℕ, zero, suc, _+_, _^_, _≤_, _<_}
 use native.Mathlib.Omega.{arith}
 use lib.Dec.{eqb, ltb}
-use lib.ListN.{length, take, length-take}
-use borrow.Author.Tests.{eqb-true, eq-eqb, lt-ltb}
-use Rattle.laws.specs.Choice.{if, if-case}
+use lib.ListN.{length, length-take}
+use borrow.Author.Tests.{eq-eqb, lt-ltb}
+use Rattle.laws.specs.Choice.{if-case}
 use Rattle.laws.specs.Split.{split}
 use Rattle.ring.specs.Ring.{capacity}
-use Rattle.wire.specs.Datagram.{ceiling, Message, DATA, ACK, PROBE}
-use Rattle.receiving.specs.Receiving.{Receiving, lowOf, ackPosition, ackCredit}
+use Rattle.wire.specs.Datagram.{Message, DATA, ACK}
+use Rattle.receiving.specs.Receiving.{lowOf, ackPosition, ackCredit}
 use Rattle.receiving.specs.Receiving as receiving
 use Rattle.receiving.specs.AckLaws.{position-low, low-passes, position-passes}
 use Rattle.receiving.specs.ReceivingLaws.{grant-true}
-use Rattle.sending.specs.Sending.{Segment, Sending}
-use Rattle.sending.specs.Acking as acking
 use Rattle.sending.specs.Steps.{sendOf}
-use Rattle.sending.specs.StepLaws.{and-left, and-right}
-use Rattle.sending.specs.True.{TrueData, True, data-true, probe-true, Each, each-none, each-more}
-use Rattle.sending.specs.TrueLaws.{each-in, send-true}
+use Rattle.sending.specs.True.{True, data-true, probe-true, Each, each-none, each-more}
+use Rattle.sending.specs.TrueLaws.{send-true}
 use Rattle.sending.specs.CallLaws.{In, here, there}
 use Rattle.endpoint.specs.End.{End, allowanceOf, ackOf, sentOf}
-use Rattle.network.specs.World.{Entry, Site, leaving}
-use Rattle.network.specs.Truth.{Source, Sink, source, sink, position, grant, gone, gone-end, Forth, forth, an-ack, Flow, Pair}
+use Rattle.network.specs.World.{Entry, leaving}
+use Rattle.network.specs.Truth.{Source, Sink, Forth, forth, Flow}
 use Rattle.sending.specs.NetworkLaws.{data-below}
 use Rattle.receiving.specs.NetworkLaws.{past-end}
-use Rattle.network.specs.FlowLaws.{next-most}
-use Rattle.endpoint.specs.EndLaws.{Marked, Accepts, accepts-data, accepts-ack, accepts-probe}
-use Rattle.fairness.specs.Timed.{Plan, Side, other, siteAt, endAt}
-use Rattle.fairness.specs.Networks.{isSegment, isAck, isProbe, sentIn, sends, Going}
+use Rattle.fairness.specs.Timed.{Plan, Side, endAt}
+use Rattle.fairness.specs.Networks.{isAck, sentIn, sends, Going}
 use Rattle.fairness.specs.TimedLaws.{readyAt}
-use Rattle.fairness.specs.SideLaws.{Works, fills-position, fills-grant}
-use Rattle.fairness.specs.StateLaws.{work, sent-is, sent-in, ticks-at, allowed-at, positionAt, grantAt}
-use Rattle.fairness.specs.OldestLaws.{in-left, in-right, sends-it}
+use Rattle.fairness.specs.StateLaws.{work, sent-is, sent-in, ticks-at, allowed-at}
+use Rattle.fairness.specs.OldestLaws.{in-right, sends-it}
 use Rattle.fairness.specs.TakenLaws.{ready-pair}
 
 -- A SEGMENT from acked on: when it is heard, all below its end has arrived

@@ -1,41 +1,39 @@
 -- An end that has bytes waiting, nothing kept and no room goes by turns too: PROBEs, and ACKs that bring room. Assumes nothing.
-use mathlib.Core.Path.{_≡_, refl, ap, sym, _∙_}
+use mathlib.Core.Path.{_≡_, refl, ap, _∙_}
 use mathlib.Core.Bool.{true}
-use mathlib.Core.List.{List, [], _∷_}
-use Prim.Native.Nat.{ℕ, zero, suc, _+_, _-_, _^_, _≤_, _<_}
+use mathlib.Core.List.{[]}
+use Prim.Native.Nat.{ℕ, suc, _+_, _-_, _^_, _≤_, _<_}
 use native.Mathlib.Decide.{decLe, decLt}
 use native.Mathlib.Omega.{arith}
-use lib.ListN.{length, length-take}
+use lib.ListN.{length-take}
 use Rattle.ring.specs.Ring.{capacity}
-use Rattle.wire.specs.Datagram.{Message, DATA, ACK, PROBE}
+use Rattle.wire.specs.Datagram.{Message, PROBE}
 use Rattle.receiving.specs.Receiving.{Receiving, lowOf, ackPosition, ackCredit}
-use Rattle.receiving.specs.AckLaws.{low-room, ack-says, position-low}
+use Rattle.receiving.specs.AckLaws.{low-room, ack-says}
 use Rattle.receiving.specs.NetworkLaws.{past-end}
-use Rattle.sending.specs.declared.Tick.{Tick}
-use Rattle.sending.specs.Sending.{Probed, never, tick, Segment, Sending}
+use Rattle.sending.specs.Sending.{Probed, never, tick, Sending}
 use Rattle.sending.specs.Giving as giving
 use Rattle.sending.specs.Acking as acking
 use Rattle.sending.specs.Steps.{sendOf}
 use Rattle.sending.specs.Buffers.{Orderly}
 use Rattle.sending.specs.CallLaws.{In, here, ack-keeps, given-is, finished-is, tick-keeps, limit-ack}
-use Rattle.sending.specs.TickLaws.{Waits, waits-send, ProbeSent, probe-first, probe-again, ProbeWaits, probe-waits}
+use Rattle.sending.specs.TickLaws.{Waits, waits-send, ProbeSent, probe-first, probe-again, probe-waits}
 use Rattle.sending.specs.PastLaws.{probe-past}
-use Rattle.sending.specs.OrderLaws.{orderly-ack}
 use Rattle.endpoint.specs.End.{End, clockOf, ackOf, sentOf}
-use Rattle.endpoint.specs.EndLaws.{Marked, Accepts, accepts-data, accepts-ack, accepts-probe}
-use Rattle.network.specs.World.{Entry, Site}
-use Rattle.network.specs.Truth.{source, sink, Flow, Pair}
+use Rattle.endpoint.specs.EndLaws.{Accepts, accepts-data, accepts-ack, accepts-probe}
+use Rattle.network.specs.World.{Site}
+use Rattle.network.specs.Truth.{Pair}
 use Rattle.fairness.specs.Turns.{Comes, Turns}
 use Rattle.fairness.specs.TimerLaws.{Beat, beats, rests, Timer, Held, timer-tries, held-at}
-use Rattle.fairness.specs.Timed.{Plan, Side, other, intervalOf, siteAt, endAt}
+use Rattle.fairness.specs.Timed.{Plan, Side, other, intervalOf, endAt}
 use Rattle.fairness.specs.Networks.{isAck, isProbe, sends, Arrives, Going}
 use Rattle.fairness.specs.TimedLaws.{readyAt}
-use Rattle.fairness.specs.SideLaws.{Works, Moves, stays, acks, given, closed, moves-orderly, moves-limit, fills-grant}
+use Rattle.fairness.specs.SideLaws.{Moves, stays, acks, given, closed, moves-orderly, moves-limit}
 use Rattle.fairness.specs.StateLaws.{work, sent-is, ticks-at, works-at, now-at, interval-at, stays-ready, orderly-at, past-at, limit-up, ready-next, allowed-at, grantAt, grant-up}
 use Rattle.fairness.specs.OldestLaws.{in-left, sends-it, sends-one}
-use Rattle.fairness.specs.TakenLaws.{pair-at, ready-pair, Took, in-time}
+use Rattle.fairness.specs.TakenLaws.{pair-at, ready-pair, in-time}
 use Rattle.fairness.specs.AnswerLaws.{answers}
-use Rattle.fairness.specs.SegmentLaws.{interval-some, TookAck, took-ack}
+use Rattle.fairness.specs.SegmentLaws.{interval-some, took-ack}
 
 -- the last PROBE, where there was one, was at a
 pub data Probes (a : ℕ) : Probed → Type 0 where

@@ -1,19 +1,18 @@
 -- Where segments end when G bytes are given at once: at each 1,024 bytes, and at the end W, the END counted. Assumes nothing.
-use mathlib.Core.Path.{_≡_, refl, ap, sym, _∙_}
+use mathlib.Core.Path.{_≡_}
 use mathlib.Core.Bool.{Bool, true, false, _&&_}
-use mathlib.Core.List.{List, [], _∷_, _++_}
-use Prim.Native.Nat.{ℕ, zero, suc, _+_, _-_, _*_, _≤_, _<_, min}
-use native.Mathlib.Decide.{ℕ-discrete, decLt, decLe}
+use mathlib.Core.List.{List, [], _∷_}
+use Prim.Native.Nat.{ℕ, zero, suc, _+_, _-_, _*_, _≤_, _<_}
+use native.Mathlib.Decide.{ℕ-discrete, decLt}
 use native.Mathlib.Omega.{arith}
 use lib.Dec.{eqb, ltb}
 use lib.ListN.{length}
-use borrow.Author.Tests.{eqb-true, ltb-true, eq-eqb, ne-eqb}
-use Rattle.laws.specs.Choice.{if, if-case}
+use borrow.Author.Tests.{eqb-true, ltb-true, eq-eqb}
+use Rattle.laws.specs.Choice.{if-case}
 use Rattle.wire.specs.Datagram.{payloadMost}
 use Rattle.sending.specs.declared.Tick.{Tick}
 use Rattle.sending.specs.declared.Line.{Line}
-use Rattle.sending.specs.Sending.{segmentsMost, Segment, Sending, lineOf, startOf, partOf}
-use Rattle.sending.specs.Giving as giving
+use Rattle.sending.specs.Sending.{segmentsMost, Segment, Sending, lineOf, partOf}
 use Rattle.sending.specs.Acking as acking
 use Rattle.sending.specs.Steps.{Resent, dueOf, againOf, resendOf, Cut, bytesTo, cutTo, cutOne, cutOf, cutsOf, stepsOf, sendOf}
 use Rattle.sending.specs.StepLaws.{and-left, and-right}

@@ -1,15 +1,12 @@
 -- 03 §2: why D stops at 32, computed. An end with R = 1 is given a byte in each of its first 32 ticks, and so sends 32 datagrams in each tick from tick 31 on.
 -- The first of tick 31 has number 497. It comes D ticks later, right after the newest one.
 use mathlib.Core.Path.{_≡_, refl}
-use mathlib.Core.Bool.{Bool, true, false, not}
-use mathlib.Core.List.{List, [], _∷_, _++_}
-use Prim.Native.Nat.{ℕ, zero, suc, _+_, _≤_, _<_}
+use mathlib.Core.List.{[], _∷_}
+use Prim.Native.Nat.{ℕ}
 use lib.Dec.{eqb, ltb}
-use lib.ListN.{length, take}
-use native.Mathlib.Omega.{arith}
-use Rattle.laws.specs.Choice.{if, if-case}
+use Rattle.laws.specs.Choice.{if}
 use Rattle.laws.specs.Rows.{when, _orElse_, branch}
-use Rattle.wire.specs.Datagram.{ceiling, Message, DATA, ACK, PROBE, encode}
+use Rattle.wire.specs.Datagram.{encode}
 use Rattle.wire.specs.Datagram as datagram
 use Rattle.wire.specs.Reading as reading
 use Rattle.window.specs.Window as window
@@ -19,12 +16,12 @@ use Rattle.sending.specs.Giving as giving
 use Rattle.sending.specs.Acking as acking
 use Rattle.sending.specs.Steps as steps
 use Rattle.endpoint.specs.End as end
-use Rattle.network.specs.World.{Entry, Site, World, Arrival, handed, Call, gives, takes, run}
+use Rattle.network.specs.World.{handed, gives, run}
 use Rattle.network.specs.World as world
-use Rattle.network.specs.Rounds.{Round, nearArrivals, farArrivals, nearCalls, farCalls, choicesOf, allChoices, play}
+use Rattle.network.specs.Rounds.{nearArrivals, farArrivals, nearCalls, farCalls, choicesOf, allChoices, play}
 use Rattle.network.specs.Delivered.{numbersOf}
 use Rattle.fairness.specs.Networks.{sentIn}
-use Rattle.fairness.specs.Timed.{Plan, roundsOf, at, Side, the-near, the-far, siteAt, endAt}
+use Rattle.fairness.specs.Timed.{Plan, roundsOf, at, the-far, siteAt, endAt}
 
 late : ℕ → ℕ → Plan
 late tick place = record {

@@ -2,14 +2,14 @@
 use mathlib.Core.Path.{_≡_}
 use mathlib.Core.Bool.{Bool, true, false, _&&_}
 use mathlib.Core.List.{List, [], _∷_}
-use Prim.Native.Nat.{ℕ, zero, suc, _+_, _-_, _^_, _≤_, _<_}
+use Prim.Native.Nat.{ℕ, suc, _+_, _-_, _^_, _≤_, _<_}
 use lib.Dec.{eqb}
 use lib.ListN.{length, take}
 use Rattle.laws.specs.Choice.{if}
 use Rattle.wire.specs.Datagram.{ceiling, Message, DATA, ACK, PROBE}
 use Rattle.receiving.specs.Receiving.{lowOf}
 use Rattle.sending.specs.CallLaws.{In}
-use Rattle.network.specs.World.{Entry, Site, Arrival, handed}
+use Rattle.network.specs.World.{Entry, handed}
 use Rattle.fairness.specs.Count.{Fair}
 use Rattle.fairness.specs.Timed.{Plan, Side, other, arrivalsOf, siteAt, endAt}
 

@@ -1,28 +1,26 @@
 -- While a segment is the oldest it is sent at least once in R ticks, since the oldest comes before all others but the ACK. Assumes nothing.
-use mathlib.Core.Path.{_≡_, refl, ap, sym, _∙_}
-use mathlib.Core.Bool.{Bool, true, false, _&&_}
+use mathlib.Core.Path.{_≡_, refl, _∙_}
+use mathlib.Core.Bool.{Bool, true}
 use mathlib.Core.List.{List, [], _∷_, _++_}
-use Prim.Native.Nat.{ℕ, zero, suc, _+_, _-_, _*_, _≤_, _<_}
+use Prim.Native.Nat.{ℕ, suc, _+_, _-_, _≤_, _<_}
 use native.Mathlib.Decide.{decLe, decLt}
 use native.Mathlib.Omega.{arith}
-use lib.Dec.{eqb}
 use lib.ListN.{length}
 use borrow.Author.Tests.{eq-eqb}
-use Rattle.laws.specs.Choice.{if, if-case}
-use Rattle.wire.specs.Datagram.{ceiling, Message, DATA, ACK, PROBE}
-use Rattle.sending.specs.declared.Tick.{Tick}
+use Rattle.laws.specs.Choice.{if-case}
+use Rattle.wire.specs.Datagram.{Message}
 use Rattle.sending.specs.Sending.{Segment, Sending}
 use Rattle.sending.specs.Giving as giving
 use Rattle.sending.specs.Acking as acking
 use Rattle.sending.specs.Steps.{sendOf}
 use Rattle.sending.specs.Buffers.{Orderly}
 use Rattle.sending.specs.CallLaws.{In, here, there, acked-ack, acked-reached, given-is, finished-is, tick-keeps}
-use Rattle.sending.specs.TickLaws.{Last, last-has, has-in, Covers, covers, SentAgain, oldest-again, oldest-waits, oldest-ack, OldestKept}
+use Rattle.sending.specs.TickLaws.{Last, last-has, has-in, Covers, covers, oldest-again, oldest-waits, oldest-ack}
 use Rattle.sending.specs.PastLaws.{oldest-past}
 use Rattle.endpoint.specs.End.{End, clockOf, ackOf, sentOf}
 use Rattle.network.specs.World.{Entry, leaving}
 use Rattle.fairness.specs.TimerLaws.{Beat, beats, rests, Timer, Held}
-use Rattle.fairness.specs.Timed.{Plan, Side, intervalOf, siteAt, endAt}
+use Rattle.fairness.specs.Timed.{Plan, Side, intervalOf, endAt}
 use Rattle.fairness.specs.Networks.{isSegment, anyOf, sends, Going}
 use Rattle.fairness.specs.TimedLaws.{readyAt}
 use Rattle.fairness.specs.SideLaws.{Moves, stays, acks, given, closed, moves-orderly}

@@ -1,15 +1,14 @@
 -- 03 §2 and §3: a run, computed, on a network that is (2, 1)-fair and loses as much as that allows; R is 2. Of the segment, one byte, the first and the third sending
 -- are lost, and the first ACK is. Its bound is 12 ticks; it is dropped in the ninth, R + L - 1 before.
 use mathlib.Core.Path.{_≡_, refl}
-use mathlib.Core.Bool.{Bool, true, false, not}
-use mathlib.Core.List.{List, [], _∷_, _++_}
+use mathlib.Core.Bool.{Bool, true, false}
+use mathlib.Core.List.{[], _∷_}
 use Prim.Native.Nat.{ℕ, zero, suc, _+_, _≤_, _<_}
 use lib.Dec.{eqb}
-use lib.ListN.{length, take}
 use native.Mathlib.Omega.{arith}
 use Rattle.laws.specs.Choice.{if, if-case}
 use Rattle.laws.specs.Rows.{when, _orElse_, branch}
-use Rattle.wire.specs.Datagram.{ceiling, Message, DATA, ACK, PROBE, encode}
+use Rattle.wire.specs.Datagram.{ceiling, Message, DATA, ACK, encode}
 use Rattle.wire.specs.Datagram as datagram
 use Rattle.wire.specs.Reading as reading
 use Rattle.window.specs.Window as window
@@ -19,9 +18,9 @@ use Rattle.sending.specs.Giving as giving
 use Rattle.sending.specs.Acking as acking
 use Rattle.sending.specs.Steps as steps
 use Rattle.endpoint.specs.End as end
-use Rattle.network.specs.World.{Entry, Site, World, Arrival, handed, Call, gives, takes, run}
+use Rattle.network.specs.World.{handed, gives, takes, run}
 use Rattle.network.specs.World as world
-use Rattle.network.specs.Rounds.{Round, nearArrivals, farArrivals, nearCalls, farCalls, choicesOf, allChoices, play}
+use Rattle.network.specs.Rounds.{nearArrivals, farArrivals, nearCalls, farCalls, choicesOf, allChoices, play}
 use Rattle.fairness.specs.Timed.{Plan, roundsOf, at, Side, the-near, the-far, siteAt, endAt}
 use Rattle.fairness.specs.Networks.{isSegment, isAck, isProbe, sentIn, anyOf, sends, first, Arrives, FairNetwork, Going, Takers, GivenAtStart}
 use Rattle.fairness.specs.Count.{count, Fair}

@@ -1,8 +1,7 @@
 -- A segment that is the oldest kept goes by turns. Assumes nothing.
-use mathlib.Core.Path.{_≡_, refl, ap, sym, _∙_}
-use mathlib.Core.Bool.{true, _&&_}
-use mathlib.Core.List.{List, [], _∷_}
-use Prim.Native.Nat.{ℕ, zero, suc, _+_, _-_, _^_, _≤_, _<_}
+use mathlib.Core.Path.{_≡_, _∙_}
+use mathlib.Core.Bool.{true}
+use Prim.Native.Nat.{ℕ, suc, _+_, _^_, _≤_, _<_}
 use native.Mathlib.Decide.{decLe}
 use native.Mathlib.Omega.{arith}
 use lib.Dec.{eqb}
@@ -15,21 +14,21 @@ use Rattle.sending.specs.Acking as acking
 use Rattle.sending.specs.Buffers.{Orderly}
 use Rattle.sending.specs.OrderLaws.{orderly-ack}
 use Rattle.sending.specs.StepLaws.{and-left, and-right}
-use Rattle.sending.specs.CallLaws.{In, acked-ack, acked-reached}
+use Rattle.sending.specs.CallLaws.{acked-ack, acked-reached}
 use Rattle.sending.specs.TickLaws.{last-has, has-in, Covers, covers}
 use Rattle.endpoint.specs.End.{End}
-use Rattle.endpoint.specs.EndLaws.{Marked, Accepts, accepts-data, accepts-ack, accepts-probe}
-use Rattle.network.specs.World.{Entry, Site}
-use Rattle.network.specs.Truth.{source, sink, Forth, Flow, Pair}
+use Rattle.endpoint.specs.EndLaws.{Accepts, accepts-data, accepts-ack, accepts-probe}
+use Rattle.network.specs.World.{Site}
+use Rattle.network.specs.Truth.{Forth, Pair}
 use Rattle.fairness.specs.Turns.{Comes, Turns}
 use Rattle.fairness.specs.TimerLaws.{timer-tries, held-at}
-use Rattle.fairness.specs.Timed.{Plan, Side, the-near, the-far, other, intervalOf, siteAt, endAt}
+use Rattle.fairness.specs.Timed.{Plan, Side, the-near, the-far, other, intervalOf, endAt}
 use Rattle.fairness.specs.Networks.{isSegment, isAck, sends, Arrives, Going}
 use Rattle.fairness.specs.TimedLaws.{twice, readyAt}
-use Rattle.fairness.specs.SideLaws.{Works, Moves, moves-orderly, moves-acked, fills-position}
+use Rattle.fairness.specs.SideLaws.{Moves, moves-orderly, moves-acked, fills-position}
 use Rattle.fairness.specs.StateLaws.{ticks-at, orderly-at, acked-up, ready-next, positionAt, position-up}
-use Rattle.fairness.specs.OldestLaws.{sends-one, Oldest, Still, still, dropped, moves-still, Holds, oldest-timer}
-use Rattle.fairness.specs.TakenLaws.{pair-at, honest, sent-stays, Took, in-time}
+use Rattle.fairness.specs.OldestLaws.{sends-one, Still, still, dropped, moves-still, Holds, oldest-timer}
+use Rattle.fairness.specs.TakenLaws.{pair-at, honest, sent-stays, in-time}
 use Rattle.fairness.specs.AnswerLaws.{data-reaches, answers, ack-said}
 
 pub interval-some : (σ : Plan) (d : Side) (T : ℕ) → Going σ T → 1 ≤ intervalOf d σ

@@ -1,12 +1,11 @@
 -- What datagrams and calls do to the two sides of an end, in the order in which they come. Assumes nothing.
-use mathlib.Core.Path.{_≡_, refl, ap, sym, _∙_}
-use mathlib.Core.List.{List, [], _∷_, _++_}
-use Prim.Native.Nat.{ℕ, zero, suc, _+_, _-_, _≤_, _<_}
+use mathlib.Core.Path.{_≡_, refl, _∙_}
+use mathlib.Core.List.{List, [], _∷_}
+use Prim.Native.Nat.{ℕ, zero, suc, _+_, _≤_}
 use native.Mathlib.Omega.{arith}
 use lib.ListN.{length}
 use Rattle.laws.specs.Choice.{if-case}
-use Rattle.laws.specs.Rows.{when, _orElse_}
-use Rattle.laws.specs.RowsLaws.{row-left, row-right}
+use Rattle.laws.specs.RowsLaws.{row-right}
 use Rattle.wire.specs.Datagram.{Message, DATA, ACK, PROBE}
 use Rattle.wire.specs.Reading.{Decoded, refused, read, decode}
 use Rattle.receiving.specs.Receiving.{Receiving, ackPosition, ackCredit}
@@ -21,7 +20,7 @@ use Rattle.sending.specs.OrderLaws.{orderly-ack, orderly-give, orderly-finish}
 use Rattle.sending.specs.Past.{Past}
 use Rattle.sending.specs.PastLaws.{past-ack, past-give, past-finish}
 use Rattle.endpoint.specs.End.{End, giveOf, finishOf, takeOf, placeOf, refusalOf, acceptedOf, acceptIf, afterHearing, hearOf}
-use Rattle.network.specs.World.{Entry, Site, World, Arrival, handed, stray, Call, gives, finishes, takes, hear, bytesOf, handOver, strange, arrive, call}
+use Rattle.network.specs.World.{Entry, Site, Arrival, handed, stray, Call, gives, finishes, takes, hear, bytesOf, handOver, strange, arrive, call}
 use Rattle.fairness.specs.TimedLaws.{heard, called, ready}
 
 -- THE SENDING SIDE: ACKs that are not refused, give and finish, one after the other

@@ -1,37 +1,34 @@
 -- A run tick by tick: clocks, numbers, and what never falls. Assumes nothing.
-use mathlib.Core.Path.{_≡_, refl, ap, sym, _∙_}
+use mathlib.Core.Path.{_≡_, refl, ap, _∙_}
 use mathlib.Core.Bool.{_&&_}
 use mathlib.Core.List.{List, [], _∷_, _++_}
-use Prim.Native.Nat.{ℕ, zero, suc, _+_, _-_, _*_, _≤_, _<_, min}
+use Prim.Native.Nat.{ℕ, zero, suc, _+_, _-_, _*_, _≤_, _<_}
 use native.Mathlib.Nat.{add-zero, add-suc}
 use native.Mathlib.Omega.{arith}
 use lib.Dec.{eqb, ltb}
-use lib.ListN.{length, take, length-append, length-replicate}
+use lib.ListN.{length, length-append}
 use lib.Seq.{take-append-seam}
-use borrow.Author.Tests.{ltb-true, lt-ltb, eq-eqb}
+use borrow.Author.Tests.{ltb-true, lt-ltb}
 use Rattle.laws.specs.Choice.{if-case}
-use Rattle.ring.specs.Ring.{capacity}
-use Rattle.wire.specs.Datagram.{ceiling, Message, DATA, ACK, PROBE}
-use Rattle.receiving.specs.Receiving.{Receiving, ackPosition, ackCredit, missing}
-use Rattle.receiving.specs.Receiving as receiving
+use Rattle.wire.specs.Datagram.{ceiling, Message}
+use Rattle.receiving.specs.Receiving.{ackPosition, ackCredit}
 use Rattle.sending.specs.declared.Tick.{Tick}
 use Rattle.sending.specs.Sending.{Sending, datagramsMost}
-use Rattle.sending.specs.Sending as sending
 use Rattle.sending.specs.Steps.{sendOf}
-use Rattle.sending.specs.StepLaws.{and-left, and-right}
+use Rattle.sending.specs.StepLaws.{and-right}
 use Rattle.sending.specs.CallLaws.{tick-keeps}
 use Rattle.sending.specs.TickLaws.{send-few, next-send}
 use Rattle.sending.specs.Buffers.{Orderly}
 use Rattle.sending.specs.OrderLaws.{orderly-fresh, orderly-send}
 use Rattle.sending.specs.Past.{Past}
-use Rattle.sending.specs.PastLaws.{past-fresh, past-send, past-up}
+use Rattle.sending.specs.PastLaws.{past-fresh, past-send}
 use Rattle.endpoint.specs.End.{End, openOf, clockOf, allowanceOf, ackOf, stepOf, sentOf, tickOf}
-use Rattle.network.specs.World.{Entry, Site, World, opened, leaving, tick, run}
+use Rattle.network.specs.World.{Entry, Site, opened, leaving, tick, run}
 use Rattle.network.specs.Rounds.{allChoices, play}
 use Rattle.fairness.specs.Timed.{Plan, roundsOf, at, Side, the-near, the-far, other, intervalOf, arrivalsOf, callsOf, siteAt, endAt}
 use Rattle.fairness.specs.Networks.{sentIn, Going}
-use Rattle.fairness.specs.TimedLaws.{Stays, stays-then, heard, called, stays-heard, stays-called, ready, readyAt, site-next}
-use Rattle.fairness.specs.SideLaws.{Works, works-ready, Moves, moves-orderly, moves-past, moves-acked, moves-limit, moves-next, Fills, fills-position, fills-grant, fills-size}
+use Rattle.fairness.specs.TimedLaws.{Stays, stays-then, heard, stays-heard, stays-called, ready, readyAt, site-next}
+use Rattle.fairness.specs.SideLaws.{Works, works-ready, moves-orderly, moves-past, moves-acked, moves-limit, moves-next, fills-position, fills-grant}
 
 -- THE START
 pub site-start : (σ : Plan) (d : Side) → siteAt σ d 0 ≡ opened (σ .epoch) (intervalOf d σ)

@@ -1,37 +1,36 @@
 -- Who accepts a number, and when: a datagram that is handed over within 32 ticks of its sending has been accepted by then, once. Assumes nothing.
 use mathlib.Core.Path.{_≡_, refl, ap, sym, _∙_}
-use mathlib.Core.Bool.{Bool, true, false, not}
+use mathlib.Core.Bool.{true, false, not}
 use mathlib.Core.Logic.{⊎-elim}
-use mathlib.Core.List.{List, [], _∷_, _++_, List·Memᴰ, List·Memᴰ·head, List·Memᴰ·tail, List·Memᴰ·cases-cons, List·Memᴰ·not-nil}
+use mathlib.Core.List.{List, [], _∷_, _++_, List·Memᴰ, List·Memᴰ·cases-cons, List·Memᴰ·not-nil}
 use Prim.Native.Nat.{ℕ, zero, suc, _+_, _-_, _*_, _^_, _≤_, _<_}
 use native.Mathlib.Nat.{add-zero, add-suc}
-use native.Mathlib.Decide.{ℕ-discrete, decLe}
+use native.Mathlib.Decide.{ℕ-discrete}
 use native.Mathlib.Omega.{arith}
 use lib.Dec.{eqb}
 use lib.ListN.{length}
-use borrow.Author.Tests.{eqb-true, eq-eqb, ne-eqb}
+use borrow.Author.Tests.{eq-eqb, ne-eqb}
 use Rattle.laws.specs.Choice.{if, if-case}
-use Rattle.wire.specs.Datagram.{ceiling, Message, DATA, ACK, PROBE}
-use Rattle.wire.specs.Reading.{Decoded, refused, read, decode}
-use Rattle.window.specs.Window.{width, Window, verdictOf}
-use Rattle.window.specs.History.{Reached}
+use Rattle.wire.specs.Datagram.{Message}
+use Rattle.wire.specs.Reading.{Decoded, read, decode}
+use Rattle.window.specs.Window.{width}
 use Rattle.window.specs.HistoryLaws.{still-new, high-reached}
 use Rattle.sending.specs.CallLaws.{In, here, there}
-use Rattle.endpoint.specs.End.{End, openOf, hearAnswer, hearOf, sentOf}
-use Rattle.network.specs.World.{Entry, Site, World, opened, Arrival, handed, stray, Call, gives, finishes, takes, arrives, calls, noted, hear, bytesOf, handOver, strange, arrive, call, leaving, tick, act, run}
+use Rattle.endpoint.specs.End.{End, openOf, hearAnswer, sentOf}
+use Rattle.network.specs.World.{Entry, Site, opened, Arrival, handed, stray, Call, gives, finishes, takes, arrives, calls, noted, hear, bytesOf, handOver, strange, arrive, call, leaving, tick, act}
 use Rattle.network.specs.Rounds.{allChoices, play}
-use Rattle.network.specs.Delivered.{numbersOf, Every, nil, cons}
-use Rattle.network.specs.Truth.{sink, position, grant, Forth, Back, back, a-data, a-probe, Flow, Numbered, Own, Pair}
+use Rattle.network.specs.Delivered.{numbersOf, Every, cons}
+use Rattle.network.specs.Truth.{sink, position, grant, Forth, Back, back, a-data, a-probe, Pair}
 use Rattle.network.specs.FlowLaws.{data-placed, ack-placed}
 use Rattle.endpoint.specs.EndLaws.{Accepts, Hears, hears, Placed, placed-data, placed-ack, placed-probe, answer-number}
 use Rattle.endpoint.specs.EndLaws.Hears.{refuses, takes as accepts}
 use Rattle.network.specs.RunLaws.{swap, Honest, entry-read, act-pair, run-pair}
 use Rattle.fairness.specs.Timed.{Plan, roundsOf, at, Side, the-near, the-far, other, arrivalsOf, callsOf, siteAt, endAt}
-use Rattle.fairness.specs.Networks.{sentIn, Stands, first, later, Going}
+use Rattle.fairness.specs.Networks.{sentIn, Stands, first, later}
 use Rattle.fairness.specs.TimedLaws.{twice, heard, called, ready, readyAt}
 use Rattle.fairness.specs.SideLaws.{Works, works-same, works-then, works-heard, works-arrive, works-called}
 use Rattle.fairness.specs.OldestLaws.{in-left, in-right}
-use Rattle.fairness.specs.StateLaws.{site-start, end-start, sent-in, sent-next, ticks-at, stays-ready, epoch-at, number-next, number-up, number-few, works-at}
+use Rattle.fairness.specs.StateLaws.{site-start, end-start, sent-in, sent-next, ticks-at, number-next, number-up, number-few}
 
 -- BOTH ENDS, at every moment of a tick
 pub pair-at : (σ : Plan) (d : Side) (n : ℕ) → σ .epoch < 2 ^ 64 → Pair (σ .epoch) (siteAt σ d n) (siteAt σ (other d) n)

@@ -1,5 +1,5 @@
 -- A tick at one end: what is handed over, what the host calls, and then tick; what the other end does in it does not matter. Assumes nothing.
-use mathlib.Core.Path.{_≡_, refl, ap, sym, _∙_}
+use mathlib.Core.Path.{_≡_, refl, ap, _∙_}
 use mathlib.Core.List.{List, [], _∷_, _++_}
 use Prim.Native.Nat.{ℕ, zero, suc}
 use Rattle.laws.specs.Choice.{if-case}
@@ -8,7 +8,7 @@ use Rattle.wire.specs.Reading.{Decoded, refused, read, decode}
 use Rattle.endpoint.specs.End.{End, giveOf, finishOf, takeOf, refusalOf, acceptedOf, acceptIf, afterHearing, hearOf}
 use Rattle.network.specs.World.{Entry, Site, World, Arrival, handed, stray, Call, gives, finishes, takes, hear, bytesOf, handOver, strange, arrive, call, tick, act, Choice, step, run}
 use Rattle.network.specs.Rounds.{Round, nearArrivals, farArrivals, nearCalls, farCalls, choicesOf, allChoices, play}
-use Rattle.fairness.specs.Timed.{Plan, roundsOf, at, Side, the-near, the-far, other, site, intervalOf, arrivalsOf, callsOf, siteAt}
+use Rattle.fairness.specs.Timed.{Plan, roundsOf, at, Side, the-near, the-far, other, arrivalsOf, callsOf, siteAt}
 
 pub twice : (d : Side) → other (other d) ≡ d
 twice the-near = refl

@@ -1,7 +1,7 @@
 -- What is sent again when R ticks have gone since it was sent last is sent in each R ticks. Assumes nothing.
-use mathlib.Core.Path.{_≡_, refl}
+use mathlib.Core.Path.{_≡_}
 use Prim.Native.Nat.{ℕ, zero, suc, _+_, _-_, _≤_, _<_}
-use native.Mathlib.Nat.{add-zero, add-suc}
+use native.Mathlib.Nat.{add-zero}
 use native.Mathlib.Omega.{arith}
 use Rattle.fairness.specs.Count.{count}
 use Rattle.fairness.specs.CountLaws.{one, found}

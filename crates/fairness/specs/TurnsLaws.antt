@@ -1,11 +1,11 @@
 -- 03 §3: the two bounds, from fairness and turns alone. Assumes nothing.
-use mathlib.Core.Path.{_≡_, refl}
-use Prim.Native.Nat.{ℕ, zero, suc, _+_, _-_, _*_, _≤_, _<_}
+use mathlib.Core.Path.{_≡_}
+use Prim.Native.Nat.{ℕ, zero, suc, _+_, _*_, _≤_, _<_}
 use native.Mathlib.Decide.{decLe}
 use native.Mathlib.Omega.{arith}
-use Rattle.fairness.specs.Count.{count, Arrival, Fair}
+use Rattle.fairness.specs.Count.{count, Fair}
 use Rattle.fairness.specs.CountLaws.{count-add, one, many, fair-row}
-use Rattle.fairness.specs.Turns.{Comes, Turns}
+use Rattle.fairness.specs.Turns.{Turns}
 use Rattle.fairness.specs.Bounds.{handTicks, dropTicks}
 
 -- one turn: a tick of the m from n on in which it comes, and is answered
