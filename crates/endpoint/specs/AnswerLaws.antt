@@ -1,7 +1,7 @@
 -- Laws of answers. Assumes nothing.
 use mathlib.Core.Path.{_≡_, refl, sym, _∙_}
 use mathlib.Core.Bool.{Bool, true, false}
-use Prim.Native.Nat.{ℕ, zero, suc, _≤_, _<_, _^_}
+use Prim.Native.Nat.{ℕ, zero, suc, _-_, _≤_, _<_, _^_}
 use native.Mathlib.Omega.{arith}
 use lib.IntN.{ℤ, pos, negsuc, _-ℤ_, +ℤ-idl}
 use mir.Syntax.{w64}
@@ -30,3 +30,13 @@ refusal-is r h = rw (toZ-pos w64 r (omega arith), minus-answer r) (toZ-ofZ w64 (
 pub value-is : (v : ℕ) → v < 4294967296 → toZ w64 v ≡ answerOf 0 v
 unfolding answerOf
 value-is v h = toZ-pos w64 v (omega arith)
+
+-- a value is not below 0, a refusal is
+pub value-above : (n : ℕ) → answerOf 0 n ≡ pos n
+unfolding answerOf
+value-above n = refl
+
+pub refusal-below : (r n : ℕ) → (r ≡ 0 → ⊥) → answerOf r n ≡ negsuc (r - 1)
+unfolding answerOf
+refusal-below zero n h = absurd (h refl)
+refusal-below (suc r) n h = let e : suc r - 1 ≡ r = omega arith in rw e

@@ -18,10 +18,10 @@ use Rattle.sending.specs.Giving as giving
 use Rattle.sending.specs.Buffers.{sendingOf}
 use Rattle.sending.specs.Buffers as sending
 use Rattle.sending.specs.BufferLaws.{given-end, finished-end}
-use Rattle.endpoint.specs.declared.table.Sends.{Sends}
-use Rattle.endpoint.specs.End.{End, withSending, giveOf, givenOf, finishOf, gotOf, takeOf, reachedOf}
-use Rattle.endpoint.specs.Layout.{tableWords, Sections, sectionsOf, commonOf, sendsWords, sendsOf, scalarsWords, scalarsOf, ringOf, endIn, endOf, SoundIn, Sound}
-use Rattle.endpoint.specs.LayoutLaws.{withSends, withReceives, sends-words, scalars-words}
+use Rattle.table.specs.declared.Sends.{Sends}
+use Rattle.end.specs.End.{End, withSending, giveOf, givenOf, finishOf, gotOf, takeOf, reachedOf}
+use Rattle.table.specs.Layout.{tableWords, Sections, sectionsOf, commonOf, sendsWords, sendsOf, scalarsWords, scalarsOf, ringOf, endIn, endOf, SoundIn, Sound}
+use Rattle.table.specs.LayoutLaws.{withSends, withReceives, sends-words, scalars-words}
 use Rattle.endpoint.specs.Answer.{answerOf}
 use Rattle.endpoint.specs.Calls.{Became, GaveEnd, TookEnd}
 use Rattle.endpoint.specs.Streams.{withLine, closed, longer, Finished, Gave, Took}

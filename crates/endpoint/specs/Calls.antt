@@ -9,9 +9,9 @@ use Rattle.laws.specs.Over.{over}
 use Rattle.laws.specs.Rows.{when, _orElse_}
 use Rattle.ring.specs.Ring.{capacity}
 use Rattle.wire.specs.Reading.{formOf}
-use Rattle.endpoint.specs.End.{End, openOf, giveOf, givenOf, finishOf, gotOf, takeOf, reachedOf, hearAnswer, hearOf, tickOf, outputOf}
-use Rattle.endpoint.specs.Layout.{Sound, endOf}
-use Rattle.endpoint.specs.Rows.{intervalRow, shortRow, readyOf, outputRow}
+use Rattle.end.specs.End.{End, openOf, giveOf, givenOf, finishOf, gotOf, takeOf, reachedOf, hearAnswer, hearOf, tickOf, outputOf}
+use Rattle.table.specs.Layout.{Sound, endOf}
+use Rattle.table.specs.Rows.{intervalRow, shortRow, readyOf, outputRow}
 use Rattle.endpoint.specs.Answer.{answerOf}
 
 -- table, outgoing, incoming and marks hold an end, and it is f of the end that they held

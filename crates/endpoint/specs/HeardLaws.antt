@@ -28,18 +28,18 @@ use Rattle.sending.specs.Sending.{Sending}
 use Rattle.sending.specs.Acking as acking
 use Rattle.sending.specs.Buffers.{sendingOf}
 use Rattle.sending.specs.BufferLaws.{raised, acked-end}
-use Rattle.endpoint.specs.declared.table.Common.{Common}
-use Rattle.endpoint.specs.declared.table.Sends.{Sends}
-use Rattle.endpoint.specs.End.{End, placeOf, refusalOf, acceptedOf, acceptIf, answerTo, afterHearing, hearAnswer, hearOf}
-use Rattle.endpoint.specs.Layout.{tableWords, Sections, sectionsOf, commonWords, commonOf, sendsWords, sendsOf, scalarsWords, scalarsOf, ringOf, endIn, endOf, Going, SoundIn, Sound}
-use Rattle.endpoint.specs.LayoutLaws.{withCommon, withSends, withReceives, withWindow, common-words, sends-words, scalars-words}
-use Rattle.endpoint.specs.ReadyLaws.{Ready, ready-is}
-use Rattle.endpoint.specs.Rows.{readyOf}
+use Rattle.table.specs.declared.Common.{Common}
+use Rattle.table.specs.declared.Sends.{Sends}
+use Rattle.end.specs.End.{End, placeOf, refusalOf, acceptedOf, acceptIf, answerTo, afterHearing, hearAnswer, hearOf}
+use Rattle.table.specs.Layout.{tableWords, Sections, sectionsOf, commonWords, commonOf, sendsWords, sendsOf, scalarsWords, scalarsOf, ringOf, endIn, endOf, Going, SoundIn, Sound}
+use Rattle.table.specs.LayoutLaws.{withCommon, withSends, withReceives, withWindow, common-words, sends-words, scalars-words}
+use Rattle.table.specs.ReadyLaws.{Ready, ready-is}
+use Rattle.table.specs.Rows.{readyOf}
 use Rattle.endpoint.specs.Answer.{answerOf}
 use Rattle.endpoint.specs.Calls.{Became, HeardEnd, Hears}
 use Rattle.endpoint.specs.BecameLaws.{became-as}
-use Rattle.endpoint.specs.Hearing.{placeRow, judgeRow, hearRow, noting, Noted, HeardData, HeardAck, DataDone, AckDone, Heard}
-use Rattle.endpoint.specs.HearingLaws.{hear-form, form-zero, place-data, place-ack, place-probe, Judged, judged, Hearable, hearable, Hearing, HearReady}
+use Rattle.hearing.specs.Hearing.{placeRow, judgeRow, hearRow, noting, Noted, HeardData, HeardAck, DataDone, AckDone, Heard}
+use Rattle.hearing.specs.HearingLaws.{hear-form, form-zero, place-data, place-ack, place-probe, Judged, judged, Hearable, hearable, Hearing, HearReady}
 
 -- THE ANSWER
 payload-length : (d : List ℕ) (h : Header) → h ≡ fieldsOf d → WellFormed d → length (drop headSize d) ≡ h .length

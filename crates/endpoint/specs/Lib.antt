@@ -1,8 +1,3 @@
-pub mod End
-pub mod Layout
-pub mod LayoutLaws
-pub mod Rows
-pub mod ReadyLaws
 pub mod Answer
 pub mod AnswerLaws
 pub mod Streams
@@ -12,11 +7,6 @@ pub mod BecameLaws
 pub mod OutcomeLaws
 pub mod Opening
 pub mod OpeningLaws
-pub mod Hearing
-pub mod HearingLaws
-pub mod EndLaws
 pub mod HeardLaws
-pub mod Ticking
-pub mod TickingLaws
 pub mod TickedLaws
 pub mod SmallLaws

@@ -6,10 +6,10 @@ use lib.ListN.{length}
 use Rattle.receiving.specs.declared.Scalars.{Scalars}
 use Rattle.receiving.specs.Calls as receiving
 use Rattle.sending.specs.Buffers.{freshLine, freshRow}
-use Rattle.endpoint.specs.declared.table.Common.{Common}
-use Rattle.endpoint.specs.declared.table.Sends.{Sends}
-use Rattle.endpoint.specs.Layout.{Sections, sectionsOf, commonWords, sendsWords, scalarsWords, scalarsOf, ringOf}
-use Rattle.endpoint.specs.LayoutLaws.{withCommon, withSends, withReceives}
+use Rattle.table.specs.declared.Common.{Common}
+use Rattle.table.specs.declared.Sends.{Sends}
+use Rattle.table.specs.Layout.{Sections, sectionsOf, commonWords, sendsWords, scalarsWords, scalarsOf, ringOf}
+use Rattle.table.specs.LayoutLaws.{withCommon, withSends, withReceives}
 
 abbrev pub freshCommon : ℕ → ℕ → Common
 freshCommon epoch interval = record { opened = 1; epoch = epoch; interval = interval; clock = 0; number = 0; due = 0; high = 0 }

@@ -9,6 +9,7 @@ use lib.ListN.{length}
 use borrow.Rule.Slice.PartMut.{putMid}
 use Rattle.laws.specs.Rows.{when, _orElse_}
 use Rattle.laws.specs.RowsLaws.{row-left, row-right, passed-lt, passed-eq}
+use Rattle.laws.specs.Part.{part}
 use Rattle.laws.specs.PartLaws.{length-put}
 use Rattle.ring.specs.Ring.{capacity}
 use Rattle.window.specs.MarksLaws.{window-fresh}
@@ -19,12 +20,12 @@ use Rattle.sending.specs.declared.Line.{Line}
 use Rattle.sending.specs.declared.Row.{Row}
 use Rattle.sending.specs.Buffers.{sendingOf, freshLine, freshRow}
 use Rattle.sending.specs.BufferLaws.{fresh-end}
-use Rattle.endpoint.specs.declared.table.Common.{Common}
-use Rattle.endpoint.specs.declared.table.Sends.{Sends}
-use Rattle.endpoint.specs.End.{End, openOf}
-use Rattle.endpoint.specs.Layout.{tableWords, Sections, sectionsOf, commonWords, commonOf, sendsWords, sendsOf, scalarsWords, scalarsOf, ringOf, endIn, endOf, Going, SoundIn, Sound}
-use Rattle.endpoint.specs.LayoutLaws.{withCommon, withSends, withReceives, common-words, sends-words, scalars-words, common-size, sends-size, scalars-size, put-common, put-sends, put-receives, ring-put, ring-size}
-use Rattle.endpoint.specs.Rows.{intervalMost, intervalRow, shortRow}
+use Rattle.table.specs.declared.Common.{Common}
+use Rattle.table.specs.declared.Sends.{Sends}
+use Rattle.end.specs.End.{End, openOf}
+use Rattle.table.specs.Layout.{tableWords, Sections, sectionsOf, commonWords, commonOf, sendsWords, sendsOf, scalarsWords, scalarsOf, ringOf, endIn, endOf, Going, SoundIn, Sound}
+use Rattle.table.specs.LayoutLaws.{withCommon, withSends, withReceives, common-words, sends-words, scalars-words, common-size, sends-size, scalars-size, put-common, put-sends, put-receives, ring-put, ring-size}
+use Rattle.table.specs.Rows.{intervalMost, intervalRow, shortRow}
 use Rattle.endpoint.specs.Answer.{answerOf}
 use Rattle.endpoint.specs.Calls.{openRow, Opens}
 use Rattle.endpoint.specs.OutcomeLaws.{interval-small, short-small, or-small, at-most}
@@ -47,19 +48,20 @@ saved t y₁ y₂ y₃ c s v lt e₁ e₂ e₃ =
       sections = put-receives t₂ y₃ (omega arith) n₃ ∙ rw (put-sends t₁ y₂ (omega arith) n₂, put-common t y₁ lt n₁, e₁, e₂, e₃);
     }
 
-pub opened : (t m z : List ℕ) (epoch interval : ℕ) {l : Line} {p : Row} {v : Scalars} {t' : List ℕ} → capacity ≤ length m
-    → receiving.Starts (ringOf m) z v → l ≡ freshLine → p ≡ freshRow
+pub opened : {n : ℕ} → n ≡ capacity → (t m z : List ℕ) (epoch interval : ℕ) {l : Line} {p : Row} {v : Scalars} {t' : List ℕ} → capacity ≤ length m
+    → receiving.Starts (part 0 n m) z v → l ≡ freshLine → p ≡ freshRow
     → Saved t (freshCommon epoch interval) (record { line = l; row = p; probed = 0 }) v t'
-    → Opened t m epoch interval t' (putMid 0 capacity m z)
-opened t m z epoch interval {l} {p} {v} lm st el ep h =
+    → Opened t m epoch interval t' (putMid 0 n m z)
+opened size t m z epoch interval {l} {p} {v} lm f el ep h =
+    let st = rw size at f in
     let lz : length z ≡ capacity = st .marks-same ∙ ring-size m lm in
-    record {
+    rw size (record {
       size = h .size;
       marks-size = length-put m z 0 capacity (omega arith) lz;
       scalars = v;
       sections = h .sections ∙ rw (el, ep);
       starts = rw (ring-put m z lm lz) st;
-    }
+    })
 
 -- THE END that it holds
 pub opened-sound : {t m : List ℕ} {epoch interval : ℕ} {t' m' : List ℕ} → Opened t m epoch interval t' m' → (o i : List ℕ) → tableWords ≤ length t → capacity ≤ length o → capacity ≤ length i → capacity ≤ length m

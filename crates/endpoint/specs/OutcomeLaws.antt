@@ -14,8 +14,8 @@ use Rattle.receiving.specs.declared.Scalars.{Scalars}
 use Rattle.receiving.specs.Receiving.{endOf, endAt}
 use Rattle.receiving.specs.ReadLaws.{end-at-small}
 use Rattle.receiving.specs.Calls.{endedBy}
-use Rattle.endpoint.specs.Layout.{Sound, sectionsOf, scalarsOf}
-use Rattle.endpoint.specs.Rows.{outputLeast, intervalRow, shortRow, openedRow, readyOf, outputRow}
+use Rattle.table.specs.Layout.{Sound, sectionsOf, scalarsOf}
+use Rattle.table.specs.Rows.{outputLeast, intervalRow, shortRow, openedRow, readyOf, outputRow}
 use Rattle.endpoint.specs.Answer.{answerOf}
 use Rattle.endpoint.specs.Calls.{Count, openRow, Gives, Finishes, Takes, tickRow}
 use Rattle.endpoint.specs.Streams.{Finished, Gave, Took}

@@ -12,9 +12,9 @@ use Rattle.receiving.specs.Receiving.{End, beyondOf, misplacedOf, refusalBy}
 use Rattle.receiving.specs.Receiving as receiving
 use Rattle.receiving.specs.declared.Scalars.{Scalars}
 use Rattle.receiving.specs.Calls.{refusal}
-use Rattle.endpoint.specs.Layout.{Sections}
+use Rattle.table.specs.Layout.{Sections}
 use Rattle.endpoint.specs.OutcomeLaws.{or-small, at-most}
-use Rattle.endpoint.specs.Hearing.{placeRow, judgeRow, hearRow}
+use Rattle.hearing.specs.Hearing.{placeRow, judgeRow, hearRow}
 
 abbrev Small : ℕ → Type 0
 Small n = n ≤ 13

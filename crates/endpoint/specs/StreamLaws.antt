@@ -17,10 +17,10 @@ use Rattle.sending.specs.declared.Row.{Row}
 use Rattle.sending.specs.Giving.{roomOf}
 use Rattle.sending.specs.GiveLaws.{room-small}
 use Rattle.sending.specs.Outcome as sending
-use Rattle.endpoint.specs.declared.table.Sends.{Sends}
-use Rattle.endpoint.specs.Layout.{tableWords, Sections, sectionsOf, sendsWords, sendsOf, scalarsWords, scalarsOf, ringOf}
-use Rattle.endpoint.specs.LayoutLaws.{sends-size, scalars-size, put-sends, put-receives, ring-put, ring-size}
-use Rattle.endpoint.specs.ReadyLaws.{Ready}
+use Rattle.table.specs.declared.Sends.{Sends}
+use Rattle.table.specs.Layout.{tableWords, Sections, sectionsOf, sendsWords, sendsOf, scalarsWords, scalarsOf, ringOf}
+use Rattle.table.specs.LayoutLaws.{sends-size, scalars-size, put-sends, put-receives, ring-put, ring-size}
+use Rattle.table.specs.ReadyLaws.{Ready}
 use Rattle.endpoint.specs.Streams.{withLine, closed, longer, Finished, Gave, Took}
 
 -- a line that was loaded can be longer by what give takes
@@ -31,9 +31,6 @@ pub given-fits : {v : Sections} {s : Sends} {acked : ℕ} {ring bs : List ℕ} {
     → s .line .given + n ≤ ceiling + capacity
 given-fits {v} {s} r e g = omega (arith, room-count g, ap (λ (x : Sends). x .line .given) e, r .sends .given)
 
-pub ready-ranged : {v : Sections} {s : Scalars} → Ready v → s ≡ scalarsOf (v .receives) → Ranged s
-ready-ranged r e = rw e (r .receives)
-
 module _ (t y : List ℕ) (s : Sends) (long : tableWords ≤ length t) (e : s ≡ sendsOf (sectionsOf t .sends)) where
   pub finished : (l : Line) → l ≡ closed (s .line) → y ≡ sendsWords (withLine s l) → Finished t (putMid 7 8 t y)
   finished l el ey =
@@ -43,27 +40,28 @@ module _ (t y : List ℕ) (s : Sends) (long : tableWords ≤ length t) (e : s �
         sections = put-sends t y long n ∙ rw (ey, el, e);
       }
 
-  pub gave : (o bs g : List ℕ) (n : ℕ) → capacity ≤ length o → sending.Gave (s .line) (s .row .acked) (ringOf o) bs n g → y ≡ sendsWords (withLine s (longer (s .line) n))
-      → Gave t o bs n (putMid 7 8 t y) (putMid 0 capacity o g)
-  gave o bs g n lo h ey =
+  pub gave : {k : ℕ} → k ≡ capacity → (o bs g : List ℕ) (n : ℕ) → capacity ≤ length o → sending.Gave (s .line) (s .row .acked) (part 0 k o) bs n g
+      → y ≡ sendsWords (withLine s (longer (s .line) n)) → Gave t o bs n (putMid 7 8 t y) (putMid 0 k o g)
+  gave size o bs g n lo f ey =
+      let h = rw size at f in
       let k : length y ≡ 8 = ap length ey ∙ sends-size (withLine s (longer (s .line) n)) in
       let lg : length g ≡ capacity = h .put .size ∙ ring-size o lo in
-      record {
+      rw size (record {
         size = length-put t y 7 8 (omega arith) k;
         outgoing-size = length-put o g 0 capacity (omega arith) lg;
         most = omega (arith, h .count);
         small = room-count h;
         sections = put-sends t y long k ∙ rw (ey, e);
         gave = rw (ring-put o g lo lg, ← e) h;
-      }
+      })
 
-pub took : (t y i d d' : List ℕ) (s v : Scalars) → tableWords ≤ length t → s ≡ scalarsOf (sectionsOf t .receives) → receiving.Takes (ringOf i) s d d' v → y ≡ scalarsWords v
-    → Took t i d v (putMid 15 5 t y) d'
-took t y i d d' s v long e h ey =
+pub took : {n : ℕ} → n ≡ capacity → (t y i d d' : List ℕ) (s v : Scalars) → tableWords ≤ length t → s ≡ scalarsOf (sectionsOf t .receives) → receiving.Takes (part 0 n i) s d d' v
+    → y ≡ scalarsWords v → Took t i d v (putMid 15 5 t y) d'
+took size t y i d d' s v long e h ey =
     let k : length y ≡ 5 = ap length ey ∙ scalars-size v in
     record {
       size = length-put t y 15 5 (omega arith) k;
       output-size = h .same;
       sections = put-receives t y long k ∙ rw ey;
-      takes = rw (← e) h;
+      takes = rw (← e) (rw size at h);
     }

@@ -8,9 +8,9 @@ use Rattle.receiving.specs.declared.Scalars.{Scalars}
 use Rattle.receiving.specs.Calls as receiving
 use Rattle.sending.specs.Outcome as sending
 use Rattle.sending.specs.declared.Line.{Line}
-use Rattle.endpoint.specs.declared.table.Sends.{Sends}
-use Rattle.endpoint.specs.Layout.{Sections, sectionsOf, sendsWords, sendsOf, scalarsWords, scalarsOf, ringOf}
-use Rattle.endpoint.specs.LayoutLaws.{withSends, withReceives}
+use Rattle.table.specs.declared.Sends.{Sends}
+use Rattle.table.specs.Layout.{Sections, sectionsOf, sendsWords, sendsOf, scalarsWords, scalarsOf, ringOf}
+use Rattle.table.specs.LayoutLaws.{withSends, withReceives}
 
 -- the sending side's scalars with another line
 abbrev pub withLine : Sends → Line → Sends

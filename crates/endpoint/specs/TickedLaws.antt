@@ -24,18 +24,18 @@ use Rattle.sending.specs.Steps.{Sends, sendOf}
 use Rattle.sending.specs.Buffers.{sendingOf}
 use Rattle.sending.specs.BufferLaws.{moved, SentEnd, sent-end}
 use Rattle.sending.specs.WireLaws.{wire-append, over-rest}
-use Rattle.endpoint.specs.declared.table.Common.{Common}
-use Rattle.endpoint.specs.declared.table.Sends as declared
-use Rattle.endpoint.specs.End.{End, clockOf, allowanceOf, ackOf, stepOf, sentOf, tickOf, outputOf}
-use Rattle.endpoint.specs.Layout.{tableWords, Sections, sectionsOf, commonWords, commonOf, sendsWords, sendsOf, scalarsOf, ringOf, endIn, endOf, Going, SoundIn, Sound}
-use Rattle.endpoint.specs.LayoutLaws.{withCommon, withSends, withEnds, withTimes, common-words, sends-words}
-use Rattle.endpoint.specs.Rows.{outputLeast, readyOf, outputRow}
-use Rattle.endpoint.specs.ReadyLaws.{Ready, ready-is, sound-ready}
+use Rattle.table.specs.declared.Common.{Common}
+use Rattle.table.specs.declared.Sends as declared
+use Rattle.end.specs.End.{End, clockOf, allowanceOf, ackOf, stepOf, sentOf, tickOf, outputOf}
+use Rattle.table.specs.Layout.{tableWords, Sections, sectionsOf, commonWords, commonOf, sendsWords, sendsOf, scalarsOf, ringOf, endIn, endOf, Going, SoundIn, Sound}
+use Rattle.table.specs.LayoutLaws.{withCommon, withSends, withEnds, withTimes, common-words, sends-words}
+use Rattle.table.specs.Rows.{outputLeast, readyOf, outputRow}
+use Rattle.table.specs.ReadyLaws.{Ready, ready-is, sound-ready}
 use Rattle.endpoint.specs.Answer.{answerOf}
 use Rattle.endpoint.specs.Calls.{Became, Count, tickRow, TickedEnd, Ticks}
 use Rattle.endpoint.specs.OutcomeLaws.{or-small, at-most, ready-most}
-use Rattle.endpoint.specs.Ticking.{clockBy, allowanceBy, acksBy, mayOf, acksOf, workOf, stampOf, ackMessages, AckOver, SegmentsSent, TickReady, ticking, Ticked}
-use Rattle.endpoint.specs.TickingLaws.{allowance-numbers, acks-few}
+use Rattle.ticking.specs.Ticking.{clockBy, allowanceBy, acksBy, mayOf, acksOf, workOf, stampOf, ackMessages, AckOver, SegmentsSent, TickReady, ticking, Ticked}
+use Rattle.ticking.specs.TickingLaws.{allowance-numbers, acks-few}
 
 -- WHAT A TICK GOES BY is the definition's
 one-or-none : (s : Sections) (p c : ℕ) (b : Bool) → positionBy (scalarsOf (s .receives)) ≡ p → creditBy (scalarsOf (s .receives)) ≡ c → ackMessages s (if b 1 0) ≡ if b (ACK p c ∷ []) []

@@ -1,17 +1,13 @@
 // An end on lent buffers: the six calls of 01 section 1, for C and Rust.
 mod answer;
-mod hearing;
 mod opening;
-mod ready;
 mod stream;
-mod table;
-mod ticking;
 
 ghost use Rattle.endpoint.specs.Calls.{Opens, Gives, Finishes, Hears, Takes, Ticks};
 use answer::refusal;
 use answer::value;
-use ready::ready;
 use ring::CAPACITY;
+use table::ready;
 use table::scalars_in;
 
 // open epoch, R: a fresh end. The table is written in every word that an end relies on, and the marks are cleared.

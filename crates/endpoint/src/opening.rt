@@ -3,15 +3,19 @@ ghost use mathlib.Core.Path.{_≡_};
 ghost use Prim.Native.Nat.{ℕ, _≤_};
 ghost use lib.ListN.{length};
 ghost use Rattle.ring.specs.Ring.{capacity};
-ghost use Rattle.endpoint.specs.Layout.{tableWords};
+ghost use Rattle.table.specs.Layout.{tableWords};
 ghost use Rattle.endpoint.specs.Calls.{openRow};
-ghost use Rattle.endpoint.specs.Opening.{Opened};
-use super::ready::interval_row;
-use super::ready::short_row;
-use super::table::Common;
-use super::table::Sends;
-use super::table::save_all;
+ghost use Rattle.endpoint.specs.Opening.{Saved, Opened};
+use receiving::Scalars;
 use ring::CAPACITY;
+use table::Common;
+use table::Sends;
+use table::interval_row;
+use table::ring_size;
+use table::save_common;
+use table::save_scalars;
+use table::save_sends;
+use table::short_row;
 
 // Refusals 10 and 11, or 0.
 pub fn open_row(interval: u64, table: usize, outgoing: usize, incoming: usize, marks: usize) -> u64
@@ -31,11 +35,22 @@ pub fn open_row(interval: u64, table: usize, outgoing: usize, incoming: usize, m
     0
 }
 
+// Stores all three sections of scalars.
+fn save_all(t: &mut [u64], c: Common, s: Sends, v: Scalars)
+    requires { ⌜ tableWords ≤ length (now t) ⌝ }
+    ensures { λ _. ⌜ Saved (now (t .entry)) c s v (now (t .exit)) ⌝ }
+{
+    save_common(&mut t[0..7], c);
+    save_sends(&mut t[7..15], s);
+    save_scalars(&mut t[15..20], v);
+}
+
 pub fn open_end(t: &mut [u64], marks: &mut [u8], epoch: u64, interval: u64)
     requires { ⌜ (tableWords ≤ length (now t)) × (capacity ≤ length (now marks)) ⌝ }
     ensures { λ _. ⌜ Opened (now (t .entry)) (now (marks .entry)) epoch interval (now (t .exit)) (now (marks .exit)) ⌝ }
 {
-    let v = receiving::start(&mut marks[0..CAPACITY]);
+    let k = ring_size();
+    let v = receiving::start(&mut marks[0..k]);
     let c = Common {
         opened: 1,
         epoch: epoch,

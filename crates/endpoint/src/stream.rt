@@ -3,16 +3,16 @@ ghost use mathlib.Core.Path.{_≡_};
 ghost use Prim.Native.Nat.{ℕ, _≤_};
 ghost use lib.ListN.{length};
 ghost use Rattle.ring.specs.Ring.{capacity};
-ghost use Rattle.endpoint.specs.Layout.{tableWords, sectionsOf};
-ghost use Rattle.endpoint.specs.ReadyLaws.{Ready};
+ghost use Rattle.table.specs.Layout.{tableWords, sectionsOf};
+ghost use Rattle.table.specs.ReadyLaws.{Ready};
 ghost use Rattle.endpoint.specs.Streams.{Finished, Gave, Took};
-use super::table::Sends;
-use super::table::save_scalars;
-use super::table::save_sends;
-use super::table::scalars_in;
-use super::table::sends_in;
+use table::Sends;
+use table::ring_size;
+use table::save_scalars;
+use table::save_sends;
+use table::scalars_in;
+use table::sends_in;
 use receiving::Scalars;
-use ring::CAPACITY;
 use sending::Line;
 
 pub fn finish(t: &mut [u64])
@@ -38,7 +38,8 @@ pub fn give(t: &mut [u64], outgoing: &mut [u8], bytes: &[u8]) -> u64
     let s = sends_in(t);
     let row = s.row;
     let line = s.line;
-    let n = sending::give(&mut outgoing[0..CAPACITY], line, row.acked, bytes);
+    let k = ring_size();
+    let n = sending::give(&mut outgoing[0..k], line, row.acked, bytes);
     let longer = Line {
         given: line.given + n,
         closed: line.closed,
@@ -59,7 +60,8 @@ pub fn take(t: &mut [u64], incoming: &[u8], out: &mut [u8]) -> Scalars
     ensures { λ r. ⌜ Took (now (t .entry)) (now (incoming .entry)) (now (out .entry)) r (now (t .exit)) (now (out .exit)) ⌝ }
 {
     let s = scalars_in(t);
-    let v = receiving::take(&incoming[0..CAPACITY], s, out);
+    let k = ring_size();
+    let v = receiving::take(&incoming[0..k], s, out);
     save_scalars(&mut t[15..20], v);
     v
 }

@@ -19,7 +19,7 @@ use Rattle.sending.specs.Buffers.Chain.{none, one}
 use Rattle.sending.specs.CallLaws.{In, here, there, tick-keeps, TickKeeps}
 use Rattle.sending.specs.OrderLaws.{chain-up, acked-next}
 use Rattle.sending.specs.TickLaws.{next-send, Last, last-has, has-in, resent-few, NewSegment, cut-new, cut-last}
-use Rattle.endpoint.specs.End.{End, openOf}
+use Rattle.end.specs.End.{End, openOf}
 use Rattle.network.specs.FlowLaws.{taken-says}
 use Rattle.fairness.specs.TakenLaws.{pair-at}
 use Rattle.fairness.specs.Timed.{Plan, Side, other, siteAt, endAt}

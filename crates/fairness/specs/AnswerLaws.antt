@@ -20,7 +20,7 @@ use Rattle.sending.specs.Steps.{sendOf}
 use Rattle.sending.specs.True.{True, data-true, probe-true, Each, each-none, each-more}
 use Rattle.sending.specs.TrueLaws.{send-true}
 use Rattle.sending.specs.CallLaws.{In, here, there}
-use Rattle.endpoint.specs.End.{End, allowanceOf, ackOf, sentOf}
+use Rattle.end.specs.End.{End, allowanceOf, ackOf, sentOf}
 use Rattle.network.specs.World.{Entry, leaving}
 use Rattle.network.specs.Truth.{Source, Sink, Forth, forth, Flow}
 use Rattle.sending.specs.NetworkLaws.{data-below}

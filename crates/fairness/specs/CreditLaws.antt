@@ -19,8 +19,8 @@ use Rattle.sending.specs.Buffers.{Orderly}
 use Rattle.sending.specs.CallLaws.{In, here, ack-keeps, given-is, finished-is, tick-keeps, limit-ack}
 use Rattle.sending.specs.TickLaws.{Waits, waits-send, ProbeSent, probe-first, probe-again, probe-waits}
 use Rattle.sending.specs.PastLaws.{probe-past}
-use Rattle.endpoint.specs.End.{End, clockOf, ackOf, sentOf}
-use Rattle.endpoint.specs.EndLaws.{Accepts, accepts-data, accepts-ack, accepts-probe}
+use Rattle.end.specs.End.{End, clockOf, ackOf, sentOf}
+use Rattle.end.specs.EndLaws.{Accepts, accepts-data, accepts-ack, accepts-probe}
 use Rattle.network.specs.World.{Site}
 use Rattle.network.specs.Truth.{Pair}
 use Rattle.fairness.specs.Turns.{Comes, Turns}

@@ -22,5 +22,3 @@ pub mod EdgeLaws
 pub mod CutsLaws
 pub mod AllLaws
 pub mod Statement
-pub mod Samples
-pub mod EdgeSamples

@@ -17,7 +17,7 @@ use Rattle.sending.specs.Buffers.{Orderly}
 use Rattle.sending.specs.CallLaws.{In, here, there, acked-ack, acked-reached, given-is, finished-is, tick-keeps}
 use Rattle.sending.specs.TickLaws.{Last, last-has, has-in, Covers, covers, oldest-again, oldest-waits, oldest-ack}
 use Rattle.sending.specs.PastLaws.{oldest-past}
-use Rattle.endpoint.specs.End.{End, clockOf, ackOf, sentOf}
+use Rattle.end.specs.End.{End, clockOf, ackOf, sentOf}
 use Rattle.network.specs.World.{Entry, leaving}
 use Rattle.fairness.specs.TimerLaws.{Beat, beats, rests, Timer, Held}
 use Rattle.fairness.specs.Timed.{Plan, Side, intervalOf, endAt}

@@ -16,8 +16,8 @@ use Rattle.sending.specs.OrderLaws.{orderly-ack}
 use Rattle.sending.specs.StepLaws.{and-left, and-right}
 use Rattle.sending.specs.CallLaws.{acked-ack, acked-reached}
 use Rattle.sending.specs.TickLaws.{last-has, has-in, Covers, covers}
-use Rattle.endpoint.specs.End.{End}
-use Rattle.endpoint.specs.EndLaws.{Accepts, accepts-data, accepts-ack, accepts-probe}
+use Rattle.end.specs.End.{End}
+use Rattle.end.specs.EndLaws.{Accepts, accepts-data, accepts-ack, accepts-probe}
 use Rattle.network.specs.World.{Site}
 use Rattle.network.specs.Truth.{Forth, Pair}
 use Rattle.fairness.specs.Turns.{Comes, Turns}

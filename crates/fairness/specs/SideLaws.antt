@@ -19,7 +19,7 @@ use Rattle.sending.specs.Buffers.{Orderly}
 use Rattle.sending.specs.OrderLaws.{orderly-ack, orderly-give, orderly-finish}
 use Rattle.sending.specs.Past.{Past}
 use Rattle.sending.specs.PastLaws.{past-ack, past-give, past-finish}
-use Rattle.endpoint.specs.End.{End, giveOf, finishOf, takeOf, placeOf, refusalOf, acceptedOf, acceptIf, afterHearing, hearOf}
+use Rattle.end.specs.End.{End, giveOf, finishOf, takeOf, placeOf, refusalOf, acceptedOf, acceptIf, afterHearing, hearOf}
 use Rattle.network.specs.World.{Entry, Site, Arrival, handed, stray, Call, gives, finishes, takes, hear, bytesOf, handOver, strange, arrive, call}
 use Rattle.fairness.specs.TimedLaws.{heard, called, ready}
 

@@ -22,7 +22,7 @@ use Rattle.sending.specs.Buffers.{Orderly}
 use Rattle.sending.specs.OrderLaws.{orderly-fresh, orderly-send}
 use Rattle.sending.specs.Past.{Past}
 use Rattle.sending.specs.PastLaws.{past-fresh, past-send}
-use Rattle.endpoint.specs.End.{End, openOf, clockOf, allowanceOf, ackOf, stepOf, sentOf, tickOf}
+use Rattle.end.specs.End.{End, openOf, clockOf, allowanceOf, ackOf, stepOf, sentOf, tickOf}
 use Rattle.network.specs.World.{Entry, Site, opened, leaving, tick, run}
 use Rattle.network.specs.Rounds.{allChoices, play}
 use Rattle.fairness.specs.Timed.{Plan, roundsOf, at, Side, the-near, the-far, other, intervalOf, arrivalsOf, callsOf, siteAt, endAt}

@@ -16,14 +16,14 @@ use Rattle.wire.specs.Reading.{Decoded, read, decode}
 use Rattle.window.specs.Window.{width}
 use Rattle.window.specs.HistoryLaws.{still-new, high-reached}
 use Rattle.sending.specs.CallLaws.{In, here, there}
-use Rattle.endpoint.specs.End.{End, openOf, hearAnswer, sentOf}
+use Rattle.end.specs.End.{End, openOf, hearAnswer, sentOf}
 use Rattle.network.specs.World.{Entry, Site, opened, Arrival, handed, stray, Call, gives, finishes, takes, arrives, calls, noted, hear, bytesOf, handOver, strange, arrive, call, leaving, tick, act}
 use Rattle.network.specs.Rounds.{allChoices, play}
 use Rattle.network.specs.Delivered.{numbersOf, Every, cons}
 use Rattle.network.specs.Truth.{sink, position, grant, Forth, Back, back, a-data, a-probe, Pair}
 use Rattle.network.specs.FlowLaws.{data-placed, ack-placed}
-use Rattle.endpoint.specs.EndLaws.{Accepts, Hears, hears, Placed, placed-data, placed-ack, placed-probe, answer-number}
-use Rattle.endpoint.specs.EndLaws.Hears.{refuses, takes as accepts}
+use Rattle.end.specs.EndLaws.{Accepts, Hears, hears, Placed, placed-data, placed-ack, placed-probe, answer-number}
+use Rattle.end.specs.EndLaws.Hears.{refuses, takes as accepts}
 use Rattle.network.specs.RunLaws.{swap, Honest, entry-read, act-pair, run-pair}
 use Rattle.fairness.specs.Timed.{Plan, roundsOf, at, Side, the-near, the-far, other, arrivalsOf, callsOf, siteAt, endAt}
 use Rattle.fairness.specs.Networks.{sentIn, Stands, first, later}

@@ -1,7 +1,7 @@
 -- 03 §1: a run in ticks, in the document's order, over the worlds of network. Tick 0 is the first.
 use mathlib.Core.List.{List, [], _∷_}
 use Prim.Native.Nat.{ℕ, zero, suc}
-use Rattle.endpoint.specs.End.{End}
+use Rattle.end.specs.End.{End}
 use Rattle.network.specs.World.{Site, World, Arrival, Call}
 use Rattle.network.specs.Rounds.{Round, play}
 

@@ -5,7 +5,7 @@ use Prim.Native.Nat.{ℕ, zero, suc}
 use Rattle.laws.specs.Choice.{if-case}
 use Rattle.wire.specs.Datagram.{Message, DATA, ACK, PROBE}
 use Rattle.wire.specs.Reading.{Decoded, refused, read, decode}
-use Rattle.endpoint.specs.End.{End, giveOf, finishOf, takeOf, refusalOf, acceptedOf, acceptIf, afterHearing, hearOf}
+use Rattle.end.specs.End.{End, giveOf, finishOf, takeOf, refusalOf, acceptedOf, acceptIf, afterHearing, hearOf}
 use Rattle.network.specs.World.{Entry, Site, World, Arrival, handed, stray, Call, gives, finishes, takes, hear, bytesOf, handOver, strange, arrive, call, tick, act, Choice, step, run}
 use Rattle.network.specs.Rounds.{Round, nearArrivals, farArrivals, nearCalls, farCalls, choicesOf, allChoices, play}
 use Rattle.fairness.specs.Timed.{Plan, roundsOf, at, Side, the-near, the-far, other, arrivalsOf, callsOf, siteAt}

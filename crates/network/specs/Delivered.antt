@@ -7,7 +7,7 @@ use Rattle.laws.specs.History.{Prefix}
 use Rattle.wire.specs.Datagram.{Message, DATA, ACK, PROBE}
 use Rattle.ring.specs.Ring.{capacity}
 use Rattle.receiving.specs.Receiving.{ackPosition}
-use Rattle.endpoint.specs.End.{gotOf, reachedOf, hearAnswer}
+use Rattle.end.specs.End.{gotOf, reachedOf, hearAnswer}
 use Rattle.network.specs.World.{Entry, Site, World, bytesOf}
 
 -- no number is there twice

@@ -6,6 +6,4 @@ pub mod Truth
 pub mod FlowLaws
 pub mod RunLaws
 pub mod Statement
-pub mod Code
-pub mod CodeLaws
 pub mod Samples

@@ -17,12 +17,12 @@ use Rattle.receiving.specs.Receiving.{Receiving}
 use Rattle.sending.specs.True.{True, data-true, probe-true, Each, each-none, each-more}
 use Rattle.sending.specs.TrueLaws.{each-append, each-map, send-true}
 use Rattle.sending.specs.Sending.{Sending}
-use Rattle.endpoint.specs.End.{End, clockOf, sentOf}
+use Rattle.end.specs.End.{End, clockOf, sentOf}
 use Rattle.network.specs.World.{Entry, Site, opened, Arrival, handed, stray, Call, gives, finishes, takes, Act, arrives, calls, ticks, noted, hear, bytesOf, handOver, strange, arrive, call, leaving, tick, act, Choice, near-acts, far-acts, step, run}
 use Rattle.network.specs.Delivered.{numbersOf, isAck, asks, acksIn, asksIn, Every, nil, cons}
 use Rattle.network.specs.Delivered.Welcome.{accepted}
-use Rattle.endpoint.specs.EndLaws.{Sides, open-is, give-sides, given-is, finish-sides, take-sides, got-is, reached-is, Marked, Accepts, accepts-data, accepts-ack, accepts-probe, Hears, hears, Acks, no-ack, one-ack, tick-is}
-use Rattle.endpoint.specs.EndLaws.Hears.{refuses, takes as accepts}
+use Rattle.end.specs.EndLaws.{Sides, open-is, give-sides, given-is, finish-sides, take-sides, got-is, reached-is, Marked, Accepts, accepts-data, accepts-ack, accepts-probe, Hears, hears, Acks, no-ack, one-ack, tick-is}
+use Rattle.end.specs.EndLaws.Hears.{refuses, takes as accepts}
 use Rattle.network.specs.Truth.{source, sink, position, grant, Forth, forth, an-ack, Back, back, Flow, Numbered, Own, Pair}
 use Rattle.network.specs.FlowLaws.{every-map, every-append, flow-give, flow-finish, flow-ack, flow-send, flow-hear, flow-take, flow-acks, back-now, back-true, flow-start, forth-sendable, ack-sendable}
 

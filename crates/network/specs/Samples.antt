@@ -13,7 +13,7 @@ use Rattle.sending.specs.Sending as sending
 use Rattle.sending.specs.Giving as giving
 use Rattle.sending.specs.Acking as acking
 use Rattle.sending.specs.Steps as steps
-use Rattle.endpoint.specs.End as end
+use Rattle.end.specs.End as end
 use Rattle.network.specs.World.{World, handed, stray, gives, finishes, takes, arrives, calls, ticks, Choice, near-acts, far-acts, run}
 use Rattle.network.specs.World as world
 use Rattle.network.specs.Delivered.{numbersOf}

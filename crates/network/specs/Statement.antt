@@ -23,13 +23,13 @@ use Rattle.receiving.specs.Receiving as receiving
 use Rattle.receiving.specs.TruthLaws.{says-whole}
 use Rattle.receiving.specs.AckLaws.{taken-low, low-room, got-length}
 use Rattle.receiving.specs.ReceivingLaws.{receiving-take, low-true, ended-when}
-use Rattle.endpoint.specs.End.{gotOf, hearAnswer}
+use Rattle.end.specs.End.{gotOf, hearAnswer}
 use Rattle.network.specs.World.{Entry, Site, bytesOf, Choice, run}
 use Rattle.network.specs.Rounds.{Round, allChoices, play}
 use Rattle.network.specs.Delivered.{Distinct, Every, nil, cons, Welcome, Delivered, BothWays}
 use Rattle.network.specs.Delivered.Distinct.{none as no-number, more as one-more}
 use Rattle.network.specs.Delivered.Welcome.{accepted, too-old, taken-before}
-use Rattle.endpoint.specs.EndLaws.{got-is, reached-is, Placed, placed-data, placed-ack, placed-probe, answer-number}
+use Rattle.end.specs.EndLaws.{got-is, reached-is, Placed, placed-data, placed-ack, placed-probe, answer-number}
 use Rattle.receiving.specs.NetworkLaws.{past-end}
 use Rattle.network.specs.Truth.{Source, Sink, sink, position, grant, Forth, forth, Back, back, a-data, a-probe, Flow, Numbered, Pair}
 use Rattle.network.specs.FlowLaws.{taken-says, data-placed, ack-placed}

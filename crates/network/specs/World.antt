@@ -7,7 +7,7 @@ use lib.ListN.{length, take}
 use Rattle.laws.specs.Choice.{if}
 use Rattle.wire.specs.Datagram.{Message, encode}
 use Rattle.wire.specs.Reading.{Decoded, refused, read, decode}
-use Rattle.endpoint.specs.End.{End, openOf, giveOf, givenOf, finishOf, gotOf, takeOf, reachedOf, hearAnswer, hearOf, clockOf, sentOf, tickOf}
+use Rattle.end.specs.End.{End, openOf, giveOf, givenOf, finishOf, gotOf, takeOf, reachedOf, hearAnswer, hearOf, clockOf, sentOf, tickOf}
 
 -- a datagram of this run, as a host could note it: the tick on the clock of the end that notes it, its number, and what it says
 pub record Entry : Type 0 where

@@ -1,7 +1,7 @@
 -- `endpoint::sluice_datagram` meets its contract. Assumes nothing.
 use Rattle.endpoint.specs.OutcomeLaws.{ready-small}
 use Rattle.endpoint.specs.SmallLaws.{hear-small}
-use Rattle.endpoint.specs.ReadyLaws.{ready-table, ready-sections}
+use Rattle.table.specs.ReadyLaws.{ready-table, ready-sections}
 use Rattle.endpoint.specs.HeardLaws.{hear-unready, hear-refused, hear-ready, hear-done}
 use borrow.Author.Needs.{needs}
 use Rattle.endpoint.proofs.sluice_datagram.Statement.{statement}

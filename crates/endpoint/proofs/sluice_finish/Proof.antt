@@ -1,6 +1,6 @@
 -- `endpoint::sluice_finish` meets its contract. Assumes nothing.
 use Rattle.endpoint.specs.OutcomeLaws.{ready-small, finish-refused, finish-done}
-use Rattle.endpoint.specs.ReadyLaws.{ready-table, ready-sections}
+use Rattle.table.specs.ReadyLaws.{ready-table, ready-sections}
 use borrow.Author.Needs.{needs}
 use Rattle.endpoint.proofs.sluice_finish.Statement.{statement}
 use Rattle.endpoint.proofs.sluice_finish.Tie as tie

@@ -1,6 +1,6 @@
 -- `endpoint::sluice_give` meets its contract. Assumes nothing.
 use Rattle.endpoint.specs.OutcomeLaws.{ready-small, give-refused, give-done}
-use Rattle.endpoint.specs.ReadyLaws.{ready-table, ready-first, ready-sections}
+use Rattle.table.specs.ReadyLaws.{ready-table, ready-first, ready-sections}
 use borrow.Author.Needs.{needs}
 use Rattle.endpoint.proofs.sluice_give.Statement.{statement}
 use Rattle.endpoint.proofs.sluice_give.Tie as tie

@@ -1,7 +1,7 @@
 -- `endpoint::sluice_take` meets its contract. Assumes nothing.
 use native.Mathlib.Omega.{arith}
 use Rattle.endpoint.specs.OutcomeLaws.{ready-small, take-refused, ended-small, taken-up, taken-few, take-done}
-use Rattle.endpoint.specs.ReadyLaws.{ready-table, ready-first, ready-sections}
+use Rattle.table.specs.ReadyLaws.{ready-table, ready-first, ready-sections}
 use borrow.Author.Needs.{needs}
 use Rattle.endpoint.proofs.sluice_take.Statement.{statement}
 use Rattle.endpoint.proofs.sluice_take.Tie as tie

@@ -1,11 +1,16 @@
 -- `endpoint::stream::take` meets its contract. Assumes nothing.
-use Rattle.endpoint.specs.StreamLaws.{ready-ranged, took}
+use Rattle.table.specs.LayoutLaws.{ring-sized}
+use Rattle.table.specs.ReadyLaws.{ready-ranged}
+use Rattle.endpoint.specs.StreamLaws.{took}
 use borrow.Author.Needs.{needs}
 use Rattle.endpoint.proofs.stream.take.Statement.{statement}
 use Rattle.endpoint.proofs.stream.take.Tie as tie
 
 scalars-in-requires : tie.Need-scalars-in-requires
 scalars-in-requires c κs = search needs
+
+ring-size-requires : tie.Need-ring-size-requires
+ring-size-requires c κs = search needs
 
 sub-take : tie.Need-sub-take
 sub-take c = search needs
@@ -17,7 +22,7 @@ part-take-end : tie.Need-part-take-end
 part-take-end c = search needs
 
 take-requires : tie.Need-take-requires
-take-requires c κs = (search needs, ready-ranged (c .before .before .before .before .before .before .before .pre .0 .1) (c .before .before .scalars-in .ensures))
+take-requires c κs = (search needs, ready-ranged (c .before .before .before .before .before .before .before .before .pre .0 .1) (c .before .before .before .scalars-in .ensures))
 
 sub-save-scalars : tie.Need-sub-save-scalars
 sub-save-scalars c = search needs
@@ -39,14 +44,15 @@ same-length-2 c = search needs
 
 returns : tie.Need-returns
 returns c =
-    let a = c .before .before .before .before .before .before .before .before .before .before .before .before .before .before in
-    took (a .args .t .now) _ (a .args .incoming .now) (a .args .out .now) _ (c .before .before .before .before .before .before .before .before .before .scalars-in .result) _ (a .pre .0 .0) (c .before .before .before .before .before .before .before .before .before .scalars-in .ensures) (c .before .before .before .before .before .before .take .ensures) (c .before .before .save-scalars .ensures)
+    let a = c .before .before .before .before .before .before .before .before .before .before .before .before .before .before .before in
+    took (ring-sized (c .before .before .before .before .before .before .before .before .before .ring-size .ensures)) (a .args .t .now) _ (a .args .incoming .now) (a .args .out .now) _ (c .before .before .before .before .before .before .before .before .before .before .scalars-in .result) _ (a .pre .0 .0) (c .before .before .before .before .before .before .before .before .before .before .scalars-in .ensures) (c .before .before .before .before .before .before .take .ensures) (c .before .before .save-scalars .ensures)
 
 pub take-spec : {M : Type 1} → statement M
 take-spec =
     tie.close
     (tie.spec
     scalars-in-requires
+    ring-size-requires
     sub-take
     part-take-start
     part-take-end

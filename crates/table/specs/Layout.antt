@@ -1,0 +1,120 @@
+-- Where everything stands in the lent table, written once: six sections of words, one after the other.
+use mathlib.Core.Path.{_≡_}
+use mathlib.Core.List.{List, [], _∷_}
+use Prim.Native.Nat.{ℕ, _+_, _≤_, _<_}
+use lib.ListN.{length, getD}
+use Rattle.laws.specs.Part.{part}
+use Rattle.ring.specs.Ring.{capacity}
+use Rattle.wire.specs.Datagram.{ceiling}
+use Rattle.window.specs.Marks.{windowOf}
+use Rattle.receiving.specs.declared.Scalars.{Scalars}
+use Rattle.receiving.specs.Receiving.{receivingOf}
+use Rattle.receiving.specs.Receiving as receiving
+use Rattle.sending.specs.declared.Line.{Line}
+use Rattle.sending.specs.declared.Row.{Row}
+use Rattle.sending.specs.Buffers.{sendingOf}
+use Rattle.sending.specs.Buffers as sending
+use Rattle.table.specs.declared.Common.{Common}
+use Rattle.table.specs.declared.Sends.{Sends}
+use Rattle.end.specs.End.{End}
+
+abbrev pub tableWords : ℕ
+tableWords = 164
+
+pub record Sections : Type 0 where
+  pub common : List ℕ
+  pub sends : List ℕ
+  pub receives : List ℕ
+  pub window : List ℕ
+  pub ends : List ℕ
+  pub times : List ℕ
+
+unfoldable pub sectionsOf : List ℕ → Sections
+sectionsOf t = record {
+  common = part 0 7 t;
+  sends = part 7 8 t;
+  receives = part 15 5 t;
+  window = part 20 16 t;
+  ends = part 36 64 t;
+  times = part 100 64 t;
+}
+
+-- the words of a section, and what they are read as
+unfoldable pub commonWords : Common → List ℕ
+commonWords c = c .opened ∷ c .epoch ∷ c .interval ∷ c .clock ∷ c .number ∷ c .due ∷ c .high ∷ []
+
+unfoldable pub commonOf : List ℕ → Common
+commonOf w = record {
+  opened = getD w 0 0;
+  epoch = getD w 1 0;
+  interval = getD w 2 0;
+  clock = getD w 3 0;
+  number = getD w 4 0;
+  due = getD w 5 0;
+  high = getD w 6 0;
+}
+
+unfoldable pub sendsWords : Sends → List ℕ
+sendsWords s =
+    s .line .given ∷ s .line .closed ∷ s .line .limit ∷ s .row .acked ∷ s .row .next ∷ s .row .oldest ∷ s .row .kept ∷ s .probed ∷ []
+
+unfoldable pub sendsOf : List ℕ → Sends
+sendsOf w = record {
+  line = record { given = getD w 0 0; closed = getD w 1 0; limit = getD w 2 0 };
+  row = record { acked = getD w 3 0; next = getD w 4 0; oldest = getD w 5 0; kept = getD w 6 0 };
+  probed = getD w 7 0;
+}
+
+unfoldable pub scalarsWords : Scalars → List ℕ
+scalarsWords s = s .taken ∷ s .low ∷ s .high ∷ s .known ∷ s .end ∷ []
+
+unfoldable pub scalarsOf : List ℕ → Scalars
+scalarsOf w = record {
+  taken = getD w 0 0;
+  low = getD w 1 0;
+  high = getD w 2 0;
+  known = getD w 3 0;
+  end = getD w 4 0;
+}
+
+-- a lent buffer may be longer than asked
+abbrev pub ringOf : List ℕ → List ℕ
+ringOf b = part 0 capacity b
+
+-- the end that the sections and the buffers outgoing, incoming and marks hold
+unfoldable pub endIn : Sections → List ℕ → List ℕ → List ℕ → End
+endIn s o i m = record {
+  epoch = commonOf (s .common) .epoch;
+  interval = commonOf (s .common) .interval;
+  clock = commonOf (s .common) .clock;
+  number = commonOf (s .common) .number;
+  due = commonOf (s .common) .due;
+  window = windowOf (commonOf (s .common) .high) (s .window);
+  sending = sendingOf (sendsOf (s .sends) .line) (sendsOf (s .sends) .row) (sendsOf (s .sends) .probed) (ringOf o) (s .ends) (s .times);
+  receiving = receivingOf (scalarsOf (s .receives)) (ringOf i) (ringOf m);
+}
+
+unfoldable pub endOf : List ℕ → List ℕ → List ℕ → List ℕ → End
+endOf t o i m = endIn (sectionsOf t) o i m
+
+-- the common words of an end that was opened
+pub record Going (c : Common) : Type 0 where
+  pub opened : c .opened ≡ 1
+  pub interval-some : 0 < c .interval
+  pub interval-most : c .interval ≤ 65535
+  pub clock : c .clock ≤ ceiling
+  pub number : c .number < ceiling
+  pub due : c .due ≤ 1
+
+-- sections and buffers that hold an end
+pub record SoundIn (s : Sections) (o i m : List ℕ) : Type 0 where
+  pub going : Going (commonOf (s .common))
+  pub sends : sending.Sound (sendsOf (s .sends) .line) (sendsOf (s .sends) .row) (sendsOf (s .sends) .probed) (ringOf o) (s .ends) (s .times)
+  pub receives : receiving.Sound (scalarsOf (s .receives)) (ringOf i) (ringOf m)
+
+pub record Sound (t o i m : List ℕ) : Type 0 where
+  pub table-size : tableWords ≤ length t
+  pub outgoing-size : capacity ≤ length o
+  pub incoming-size : capacity ≤ length i
+  pub marks-size : capacity ≤ length m
+  pub holds : SoundIn (sectionsOf t) o i m

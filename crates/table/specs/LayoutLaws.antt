@@ -1,0 +1,135 @@
+-- Laws of the table: what was saved is what is loaded, and nothing else moves. Assumes nothing.
+use mathlib.Core.Path.{_≡_, refl, sym, ap, _∙_}
+use mathlib.Core.List.{List, [], _∷_, _++_}
+use Prim.Native.Nat.{ℕ, _+_, _-_, _≤_, _<_}
+use native.Mathlib.Omega.{arith}
+use lib.ListN.{length, take, drop}
+use borrow.Rule.Slice.PartMut.{putMid}
+use Rattle.laws.specs.Part.{part}
+use Rattle.laws.specs.PartLaws.{length-part, part-here, length-put, part-before, part-after}
+use Rattle.ring.specs.Ring.{capacity}
+use Rattle.receiving.specs.declared.Scalars.{Scalars}
+use Rattle.table.specs.declared.Common.{Common}
+use Rattle.table.specs.declared.Sends.{Sends}
+use Rattle.table.specs.Layout.{tableWords, Sections, sectionsOf, commonWords, commonOf, sendsWords, sendsOf, scalarsWords, scalarsOf, ringOf}
+
+-- READ BACK
+pub common-words : (c : Common) → commonOf (commonWords c) ≡ c
+unfolding commonOf commonWords
+common-words c = refl
+
+pub sends-words : (s : Sends) → sendsOf (sendsWords s) ≡ s
+unfolding sendsOf sendsWords
+sends-words s = refl
+
+pub scalars-words : (s : Scalars) → scalarsOf (scalarsWords s) ≡ s
+unfolding scalarsOf scalarsWords
+scalars-words s = refl
+
+pub common-size : (c : Common) → length (commonWords c) ≡ 7
+unfolding commonWords
+common-size c = refl
+
+pub sends-size : (s : Sends) → length (sendsWords s) ≡ 8
+unfolding sendsWords
+sends-size s = refl
+
+pub scalars-size : (s : Scalars) → length (scalarsWords s) ≡ 5
+unfolding scalarsWords
+scalars-size s = refl
+
+-- ONE SECTION WRITTEN
+-- s with one section another
+abbrev pub withCommon : Sections → List ℕ → Sections
+withCommon s w = record { common = w; sends = s .sends; receives = s .receives; window = s .window; ends = s .ends; times = s .times }
+
+abbrev pub withSends : Sections → List ℕ → Sections
+withSends s w = record { common = s .common; sends = w; receives = s .receives; window = s .window; ends = s .ends; times = s .times }
+
+abbrev pub withReceives : Sections → List ℕ → Sections
+withReceives s w = record { common = s .common; sends = s .sends; receives = w; window = s .window; ends = s .ends; times = s .times }
+
+abbrev pub withWindow : Sections → List ℕ → Sections
+withWindow s w = record { common = s .common; sends = s .sends; receives = s .receives; window = w; ends = s .ends; times = s .times }
+
+abbrev pub withEnds : Sections → List ℕ → Sections
+withEnds s w = record { common = s .common; sends = s .sends; receives = s .receives; window = s .window; ends = w; times = s .times }
+
+abbrev pub withTimes : Sections → List ℕ → Sections
+withTimes s w = record { common = s .common; sends = s .sends; receives = s .receives; window = s .window; ends = s .ends; times = w }
+
+same-sections : {c s r w e t : List ℕ} (v : Sections) → c ≡ v .common → s ≡ v .sends → r ≡ v .receives → w ≡ v .window → e ≡ v .ends → t ≡ v .times
+    → _≡_ {A = Sections} (record { common = c; sends = s; receives = r; window = w; ends = e; times = t }) v
+same-sections v e₁ e₂ e₃ e₄ e₅ e₆ = rw (e₁, e₂, e₃, e₄, e₅, e₆)
+
+module _ (t y : List ℕ) (long : tableWords ≤ length t) where
+  pub put-common : length y ≡ 7 → sectionsOf (putMid 0 7 t y) ≡ withCommon (sectionsOf t) y
+  unfolding sectionsOf
+  put-common l =
+      let f : 0 + 7 ≤ length t = omega arith in
+      let after = part-after t y 0 7 f l in
+      same-sections (withCommon (sectionsOf t) y) (part-here t y 0 7 f l) (after 7 8 (omega arith)) (after 15 5 (omega arith)) (after 20 16 (omega arith)) (after 36 64 (omega arith)) (after 100 64 (omega arith))
+
+  pub put-sends : length y ≡ 8 → sectionsOf (putMid 7 8 t y) ≡ withSends (sectionsOf t) y
+  unfolding sectionsOf
+  put-sends l =
+      let f : 7 + 8 ≤ length t = omega arith in
+      let after = part-after t y 7 8 f l in
+      let before = part-before t y 7 8 f l in
+      same-sections (withSends (sectionsOf t) y) (before 0 7 (omega arith)) (part-here t y 7 8 f l) (after 15 5 (omega arith)) (after 20 16 (omega arith)) (after 36 64 (omega arith)) (after 100 64 (omega arith))
+
+  pub put-receives : length y ≡ 5 → sectionsOf (putMid 15 5 t y) ≡ withReceives (sectionsOf t) y
+  unfolding sectionsOf
+  put-receives l =
+      let f : 15 + 5 ≤ length t = omega arith in
+      let after = part-after t y 15 5 f l in
+      let before = part-before t y 15 5 f l in
+      same-sections (withReceives (sectionsOf t) y) (before 0 7 (omega arith)) (before 7 8 (omega arith)) (part-here t y 15 5 f l) (after 20 16 (omega arith)) (after 36 64 (omega arith)) (after 100 64 (omega arith))
+
+  pub put-window : length y ≡ 16 → sectionsOf (putMid 20 16 t y) ≡ withWindow (sectionsOf t) y
+  unfolding sectionsOf
+  put-window l =
+      let f : 20 + 16 ≤ length t = omega arith in
+      let after = part-after t y 20 16 f l in
+      let before = part-before t y 20 16 f l in
+      same-sections (withWindow (sectionsOf t) y) (before 0 7 (omega arith)) (before 7 8 (omega arith)) (before 15 5 (omega arith)) (part-here t y 20 16 f l) (after 36 64 (omega arith)) (after 100 64 (omega arith))
+
+  pub put-ends : length y ≡ 64 → sectionsOf (putMid 36 64 t y) ≡ withEnds (sectionsOf t) y
+  unfolding sectionsOf
+  put-ends l =
+      let f : 36 + 64 ≤ length t = omega arith in
+      let after = part-after t y 36 64 f l in
+      let before = part-before t y 36 64 f l in
+      same-sections (withEnds (sectionsOf t) y) (before 0 7 (omega arith)) (before 7 8 (omega arith)) (before 15 5 (omega arith)) (before 20 16 (omega arith)) (part-here t y 36 64 f l) (after 100 64 (omega arith))
+
+  pub put-times : length y ≡ 64 → sectionsOf (putMid 100 64 t y) ≡ withTimes (sectionsOf t) y
+  unfolding sectionsOf
+  put-times l =
+      let f : 100 + 64 ≤ length t = omega arith in
+      let before = part-before t y 100 64 f l in
+      same-sections (withTimes (sectionsOf t) y) (before 0 7 (omega arith)) (before 7 8 (omega arith)) (before 15 5 (omega arith)) (before 20 16 (omega arith)) (before 36 64 (omega arith)) (part-here t y 100 64 f l)
+
+-- the sizes of the sections
+module _ (t : List ℕ) (long : tableWords ≤ length t) where
+  pub window-size : length (sectionsOf t .window) ≡ 16
+  unfolding sectionsOf
+  window-size = length-part t 20 16 (omega arith)
+
+  pub ends-size : length (sectionsOf t .ends) ≡ 64
+  unfolding sectionsOf
+  ends-size = length-part t 36 64 (omega arith)
+
+  pub times-size : length (sectionsOf t .times) ≡ 64
+  unfolding sectionsOf
+  times-size = length-part t 100 64 (omega arith)
+
+-- a buffer whose first 65,536 bytes came back as y
+pub ring-put : (b y : List ℕ) → capacity ≤ length b → length y ≡ capacity → ringOf (putMid 0 capacity b y) ≡ y
+ring-put b y l e = part-here b y 0 capacity (omega arith) e
+
+pub ring-size : (b : List ℕ) → capacity ≤ length b → length (ringOf b) ≡ capacity
+ring-size b l = length-part b 0 capacity (omega arith)
+
+-- a ring that is lent as the first k bytes of a buffer
+pub ring-sized : {k : ℕ} → k ≡ capacity → k - 0 ≡ capacity
+ring-sized e = omega (arith, e)

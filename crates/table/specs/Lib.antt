@@ -1,0 +1,4 @@
+pub mod Layout
+pub mod LayoutLaws
+pub mod Rows
+pub mod ReadyLaws
