@@ -7,7 +7,8 @@ use native.Mathlib.Omega.{arith}
 use native.Mathlib.Nat.{le-antisymm}
 use lib.ListN.{length, getD, set, length-set, drop, length-drop, take, length-take, replicate, length-replicate, getD-replicate}
 use lib.Seq.{getD-set-same, getD-set-other, getD-drop, getD-take}
-use Rattle.ring.specs.Ring.{capacity, Put, Zero, Blank}
+use Rattle.copies.specs.Search.{Zero, Blank}
+use Rattle.ring.specs.Ring.{capacity, Put}
 use Rattle.receiving.specs.Receiving.{of, mark}
 use Rattle.laws.specs.Split.{split}
 use Rattle.receiving.specs.Steps.{Same, Beside, Written, Stored, Laid, Placed, Runs, Advanced, Unmarked}

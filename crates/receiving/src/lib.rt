@@ -36,7 +36,7 @@ pub fn start(marks: &mut [u8]) -> Scalars
     requires { ⌜ length (now marks) ≡ capacity ⌝ }
     ensures { λ r. ⌜ Starts (now (marks .entry)) (now (marks .exit)) r ⌝ }
 {
-    ring::fill(marks, 0);
+    copies::fill(marks, 0);
     Scalars {
         taken: 0,
         low: 0,
@@ -101,13 +101,13 @@ fn run(marks: &[u8], low: u64, top: u64) -> u64
     let n = (top - low) as usize;
     let room = CAPACITY - at;
     if n <= room {
-        return low + ring::first_zero(&marks[at..at + n], 0) as u64;
+        return low + copies::first_zero(&marks[at..at + n], 0) as u64;
     }
-    let z = ring::first_zero(&marks[at..CAPACITY], 0);
+    let z = copies::first_zero(&marks[at..CAPACITY], 0);
     if z < room {
         return low + z as u64;
     }
-    low + room as u64 + ring::first_zero(&marks[0..n - room], 0) as u64
+    low + room as u64 + copies::first_zero(&marks[0..n - room], 0) as u64
 }
 
 // Passes and clears marks from low on, up to the first position without one, or top.
@@ -175,12 +175,12 @@ fn marked(marks: &[u8], a: u64, b: u64) -> u8
     let n = (b - a) as usize;
     let room = CAPACITY - at;
     if n <= room {
-        return ring::nonzero(&marks[at..at + n]);
+        return copies::nonzero(&marks[at..at + n]);
     }
-    if ring::nonzero(&marks[at..CAPACITY]) != 0 {
+    if copies::nonzero(&marks[at..CAPACITY]) != 0 {
         return 1;
     }
-    ring::nonzero(&marks[0..n - room])
+    copies::nonzero(&marks[0..n - room])
 }
 
 // In order, and no position has a mark: one copy, and then low passes what has arrived beyond.

@@ -1,13 +1,13 @@
--- `ring::copy` meets its contract. Assumes nothing.
+-- `copies::copy` meets its contract. Assumes nothing.
 use mathlib.Core.Path.{_≡_, _∙_}
 use mathlib.Core.List.{_++_}
 use Prim.Native.Nat.{_-_, _≤_}
 use native.Mathlib.Omega.{arith}
 use lib.ListN.{length, take, drop}
-use Rattle.ring.proofs.Laws.{paste-more, paste-last}
+use Rattle.copies.proofs.CopyingLaws.{paste-more, paste-last}
 use borrow.Author.Needs.{needs}
-use Rattle.ring.proofs.copy.Statement.{statement}
-use Rattle.ring.proofs.copy.Tie as tie
+use Rattle.copies.proofs.copy.Statement.{statement}
+use Rattle.copies.proofs.copy.Tie as tie
 
 abbrev Inv-loop : tie.InvT-loop
 Inv-loop dst₀ src n i₀ dst i = (i ≤ length src) × ((length dst ≡ length dst₀) × (dst ≡ take i src ++ drop i dst₀))

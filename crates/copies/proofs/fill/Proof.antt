@@ -1,13 +1,13 @@
--- `ring::fill` meets its contract. Assumes nothing.
-use Rattle.ring.proofs.Laws.{fill-more, filled}
+-- `copies::fill` meets its contract. Assumes nothing.
+use Rattle.copies.proofs.CopyingLaws.{fill-more, filled}
 use mathlib.Core.Path.{_≡_, _∙_}
 use mathlib.Core.List.{_++_}
 use Prim.Native.Nat.{_-_, _≤_}
 use native.Mathlib.Omega.{arith}
 use lib.ListN.{length, take, drop, replicate, length-set}
 use borrow.Author.Needs.{needs}
-use Rattle.ring.proofs.fill.Statement.{statement}
-use Rattle.ring.proofs.fill.Tie as tie
+use Rattle.copies.proofs.fill.Statement.{statement}
+use Rattle.copies.proofs.fill.Tie as tie
 
 abbrev Inv-loop : tie.InvT-loop
 Inv-loop m₀ v i₀ m i = (i ≤ length m₀) × ((length m ≡ length m₀) × (m ≡ take i (replicate (length m₀) v) ++ drop i m₀))

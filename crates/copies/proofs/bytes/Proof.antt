@@ -1,4 +1,4 @@
--- `ring::bytes` meets its contract. Assumes nothing.
+-- `copies::bytes` meets its contract. Assumes nothing.
 use mathlib.Core.Path.{_≡_, _∙_}
 use mathlib.Core.List.{_++_}
 use Prim.Native.Nat.{_-_, _≤_}
@@ -6,8 +6,8 @@ use native.Mathlib.Omega.{arith}
 use lib.ListN.{length, take, drop, length-set}
 use borrow.Author.Needs.{needs}
 use Rattle.laws.specs.CopyLaws.{store-more, copied}
-use Rattle.ring.proofs.bytes.Statement.{statement}
-use Rattle.ring.proofs.bytes.Tie as tie
+use Rattle.copies.proofs.bytes.Statement.{statement}
+use Rattle.copies.proofs.bytes.Tie as tie
 
 abbrev Inv-loop : tie.InvT-loop
 Inv-loop dst₀ src i₀ dst i = (i ≤ length src) × ((length dst ≡ length dst₀) × (dst ≡ take i src ++ drop i dst₀))

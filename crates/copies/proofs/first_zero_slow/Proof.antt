@@ -1,11 +1,11 @@
--- `ring::first_zero_slow` meets its contract. Assumes nothing.
+-- `copies::first_zero_slow` meets its contract. Assumes nothing.
 use mathlib.Core.Path.{_≡_}
 use Prim.Native.Nat.{ℕ, _-_, _≤_, _<_}
 use lib.ListN.{length, getD}
 use borrow.Author.Needs.{needs}
 use borrow.Author.Count.{below-more}
-use Rattle.ring.proofs.first_zero_slow.Statement.{statement}
-use Rattle.ring.proofs.first_zero_slow.Tie as tie
+use Rattle.copies.proofs.first_zero_slow.Statement.{statement}
+use Rattle.copies.proofs.first_zero_slow.Tie as tie
 
 abbrev Inv-loop : tie.InvT-loop
 Inv-loop m from i₀ i = (from ≤ i) × ((i ≤ length m) × ((k : ℕ) → k < i → from ≤ k → getD m k 0 ≡ 0 → ⊥))

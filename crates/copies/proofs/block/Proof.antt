@@ -1,12 +1,12 @@
--- `ring::block` meets its contract. Assumes nothing.
+-- `copies::block` meets its contract. Assumes nothing.
 use mathlib.Core.Path.{_∙_}
 use Prim.Native.Nat.{_+_, _-_}
 use native.Mathlib.Omega.{arith}
 use lib.ListN.{drop}
-use Rattle.ring.proofs.Laws.{put-paste}
+use Rattle.copies.proofs.CopyingLaws.{put-paste}
 use borrow.Author.Needs.{needs}
-use Rattle.ring.proofs.block.Statement.{statement}
-use Rattle.ring.proofs.block.Tie as tie
+use Rattle.copies.proofs.block.Statement.{statement}
+use Rattle.copies.proofs.block.Tie as tie
 
 add-e : tie.Need-add-e
 add-e c = search needs
