@@ -1,8 +1,8 @@
--- `receiving::place` meets its contract. Assumes nothing.
-use Rattle.receiving.proofs.StepsLaws.{placed}
+-- `arrivals::place` meets its contract. Assumes nothing.
+use Rattle.arrivals.proofs.StepsLaws.{placed}
 use borrow.Author.Needs.{needs}
-use Rattle.receiving.proofs.place.Statement.{statement}
-use Rattle.receiving.proofs.place.Tie as tie
+use Rattle.arrivals.proofs.place.Statement.{statement}
+use Rattle.arrivals.proofs.place.Tie as tie
 
 most-requires : tie.Need-most-requires
 most-requires c κs = search needs

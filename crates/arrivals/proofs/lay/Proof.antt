@@ -1,8 +1,8 @@
--- `receiving::lay` meets its contract. Assumes nothing.
-use Rattle.receiving.proofs.StepsLaws.{laid}
+-- `arrivals::lay` meets its contract. Assumes nothing.
+use Rattle.arrivals.proofs.StepsLaws.{laid}
 use borrow.Author.Needs.{needs}
-use Rattle.receiving.proofs.lay.Statement.{statement}
-use Rattle.receiving.proofs.lay.Tie as tie
+use Rattle.arrivals.proofs.lay.Statement.{statement}
+use Rattle.arrivals.proofs.lay.Tie as tie
 
 add-n : tie.Need-add-n
 add-n c = search needs

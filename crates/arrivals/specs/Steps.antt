@@ -1,10 +1,10 @@
--- What each step of hear does to the ring and the marks, by position.
+-- What each step does to the ring and the marks, by position.
 use Prim.Native.Nat.{ℕ, _+_, _-_, _≤_, _<_, max}
 use mathlib.Core.Path.{_≡_}
 use mathlib.Core.List.{List}
 use lib.ListN.{length, getD}
 use Rattle.ring.specs.Ring.{capacity}
-use Rattle.receiving.specs.Receiving.{of, mark}
+use Rattle.arrivals.specs.Marks.{of, mark}
 
 -- f′ is f at positions outside a .. b - 1, less than one turn away
 pub record Same (f : ℕ → ℕ) (a b : ℕ) (f′ : ℕ → ℕ) : Type 0 where

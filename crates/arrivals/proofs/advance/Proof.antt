@@ -1,8 +1,8 @@
--- `receiving::advance` meets its contract. Assumes nothing.
-use Rattle.receiving.proofs.StepsLaws.{advanced}
+-- `arrivals::advance` meets its contract. Assumes nothing.
+use Rattle.arrivals.proofs.StepsLaws.{advanced}
 use borrow.Author.Needs.{needs}
-use Rattle.receiving.proofs.advance.Statement.{statement}
-use Rattle.receiving.proofs.advance.Tie as tie
+use Rattle.arrivals.proofs.advance.Statement.{statement}
+use Rattle.arrivals.proofs.advance.Tie as tie
 
 run-requires : tie.Need-run-requires
 run-requires c κs = search needs

@@ -1,11 +1,11 @@
--- `receiving::store` meets its contract. Assumes nothing.
+-- `arrivals::store` meets its contract. Assumes nothing.
 use mathlib.Core.Logic.{⊎-elim}
 use Prim.Native.Nat.{_-_, _≤_}
 use borrow.Author.Needs.{needs}
-use Rattle.receiving.specs.Steps.{Stored}
-use Rattle.receiving.proofs.StepsLaws.{stored-none, stored-turn-skip, stored-turn-set, stored-all}
-use Rattle.receiving.proofs.store.Statement.{statement}
-use Rattle.receiving.proofs.store.Tie as tie
+use Rattle.arrivals.specs.Steps.{Stored}
+use Rattle.arrivals.proofs.StepsLaws.{stored-none, stored-turn-skip, stored-turn-set, stored-all}
+use Rattle.arrivals.proofs.store.Statement.{statement}
+use Rattle.arrivals.proofs.store.Tie as tie
 
 abbrev Inv-loop : tie.InvT-loop
 Inv-loop ring₀ marks₀ p src a b q₀ ring marks q = ((a ≤ q) × (q ≤ b)) × Stored ring₀ marks₀ p src a q ring marks
@@ -16,8 +16,8 @@ abbrev μ-loop : tie.MeasureT-loop
 loop-holds : tie.Need-loop-holds Inv-loop μ-loop
 loop-holds c = search (needs, stored-none)
 
-rem-j : tie.Need-rem-j Inv-loop μ-loop
-rem-j c = search needs
+index-requires : tie.Need-index-requires Inv-loop μ-loop
+index-requires c κs = search needs
 
 slice-read-if1 : tie.Need-slice-read-if1 Inv-loop μ-loop
 slice-read-if1 c = search needs
@@ -59,7 +59,7 @@ store-spec =
     Inv-loop
     μ-loop
     loop-holds
-    rem-j
+    index-requires
     slice-read-if1
     sub-k
     shared-slice-read-ring

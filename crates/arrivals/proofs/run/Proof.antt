@@ -1,17 +1,17 @@
--- `receiving::run` meets its contract. Assumes nothing.
+-- `arrivals::run` meets its contract. Assumes nothing.
 use borrow.Author.Needs.{needs}
-use Rattle.receiving.proofs.StepsLaws.{runs-straight, runs-before, runs-across}
-use Rattle.receiving.proofs.run.Statement.{statement}
-use Rattle.receiving.proofs.run.Tie as tie
-
-rem-at : tie.Need-rem-at
-rem-at c = search needs
+use Rattle.arrivals.proofs.StepsLaws.{runs-before, runs-across}
+use Rattle.arrivals.proofs.run.Statement.{statement}
+use Rattle.arrivals.proofs.run.Tie as tie
 
 sub-n : tie.Need-sub-n
 sub-n c = search needs
 
-sub-room : tie.Need-sub-room
-sub-room c = search needs
+index-requires : tie.Need-index-requires
+index-requires c κs = search needs
+
+before-seam-requires : tie.Need-before-seam-requires
+before-seam-requires c κs = search needs
 
 add-first-zero : tie.Need-add-first-zero
 add-first-zero c = search needs
@@ -32,10 +32,16 @@ add-result : tie.Need-add-result
 add-result c = search needs
 
 returns : tie.Need-returns
-returns c = search (needs, runs-straight)
+returns c = search (needs, runs-before)
+
+add-result-2 : tie.Need-add-result-2
+add-result-2 c = search needs
 
 sub-first-zero-2 : tie.Need-sub-first-zero-2
 sub-first-zero-2 c = search needs
+
+sub-first-zero-3 : tie.Need-sub-first-zero-3
+sub-first-zero-3 c = search needs
 
 part-first-zero-start-2 : tie.Need-part-first-zero-start-2
 part-first-zero-start-2 c = search needs
@@ -46,43 +52,19 @@ part-first-zero-end-2 c = search needs
 first-zero-requires-2 : tie.Need-first-zero-requires-2
 first-zero-requires-2 c κs = search needs
 
-add-result-2 : tie.Need-add-result-2
-add-result-2 c = search needs
-
-returns-2 : tie.Need-returns-2
-returns-2 c = search (needs, runs-before)
-
 add-result-3 : tie.Need-add-result-3
 add-result-3 c = search needs
 
-sub-first-zero-3 : tie.Need-sub-first-zero-3
-sub-first-zero-3 c = search needs
-
-sub-first-zero-4 : tie.Need-sub-first-zero-4
-sub-first-zero-4 c = search needs
-
-part-first-zero-start-3 : tie.Need-part-first-zero-start-3
-part-first-zero-start-3 c = search needs
-
-part-first-zero-end-3 : tie.Need-part-first-zero-end-3
-part-first-zero-end-3 c = search needs
-
-first-zero-requires-3 : tie.Need-first-zero-requires-3
-first-zero-requires-3 c κs = search needs
-
-add-result-4 : tie.Need-add-result-4
-add-result-4 c = search needs
-
-returns-3 : tie.Need-returns-3
-returns-3 c = search (needs, runs-across)
+returns-2 : tie.Need-returns-2
+returns-2 c = search (needs, runs-across)
 
 pub run-spec : {M : Type 1} → statement M
 run-spec =
     tie.close
     (tie.spec
-    rem-at
     sub-n
-    sub-room
+    index-requires
+    before-seam-requires
     add-first-zero
     sub-first-zero
     part-first-zero-start
@@ -90,17 +72,11 @@ run-spec =
     first-zero-requires
     add-result
     returns
+    add-result-2
     sub-first-zero-2
+    sub-first-zero-3
     part-first-zero-start-2
     part-first-zero-end-2
     first-zero-requires-2
-    add-result-2
-    returns-2
     add-result-3
-    sub-first-zero-3
-    sub-first-zero-4
-    part-first-zero-start-3
-    part-first-zero-end-3
-    first-zero-requires-3
-    add-result-4
-    returns-3)
+    returns-2)

@@ -1,8 +1,8 @@
--- `receiving::write` meets its contract. Assumes nothing.
-use Rattle.receiving.proofs.StepsLaws.{put-written}
+-- `arrivals::write` meets its contract. Assumes nothing.
+use Rattle.arrivals.proofs.StepsLaws.{put-written}
 use borrow.Author.Needs.{needs}
-use Rattle.receiving.proofs.write.Statement.{statement}
-use Rattle.receiving.proofs.write.Tie as tie
+use Rattle.arrivals.proofs.write.Statement.{statement}
+use Rattle.arrivals.proofs.write.Tie as tie
 
 sub-k : tie.Need-sub-k
 sub-k c = search needs

@@ -1,5 +1,5 @@
 -- Laws of the steps, by position: none, one more, joined. Only here is it opened how a mark is kept. Assumes nothing.
-use mathlib.Core.Path.{_≡_, refl, sym, _∙_}
+use mathlib.Core.Path.{_≡_, refl, sym, ap, _∙_}
 use mathlib.Core.Logic.{⊎-elim}
 use mathlib.Core.List.{List}
 use Prim.Native.Nat.{ℕ, zero, _+_, _-_, _≤_, _<_, _%_, min, max}
@@ -9,9 +9,9 @@ use lib.ListN.{length, getD, set, length-set, drop, length-drop, take, length-ta
 use lib.Seq.{getD-set-same, getD-set-other, getD-drop, getD-take}
 use Rattle.copies.specs.Search.{Zero, Blank}
 use Rattle.ring.specs.Ring.{capacity, Put}
-use Rattle.receiving.specs.Receiving.{of, mark}
+use Rattle.arrivals.specs.Marks.{of, mark}
 use Rattle.laws.specs.Split.{split}
-use Rattle.receiving.specs.Steps.{Same, Beside, Written, Stored, Laid, Placed, Runs, Advanced, Unmarked}
+use Rattle.arrivals.specs.Steps.{Same, Beside, Written, Stored, Laid, Placed, Runs, Advanced, Unmarked}
 
 -- positions a .. b - 1 have v
 record Filled (m : List ℕ) (v a b : ℕ) (m′ : List ℕ) : Type 0 where
@@ -62,110 +62,87 @@ found-part m a k {z} f fits =
       found = λ h. sym (at z h) ∙ f .found (omega arith);
     }
 
--- low .. top - 1 does not cross the ring's seam
-pub runs-straight : {m : List ℕ} {low top z : ℕ} → Zero (take (low % capacity + (top - low) - low % capacity) (drop (low % capacity) m)) 0 z
-    → top - low ≤ capacity - low % capacity → low ≤ top → length m ≡ capacity
-    → Runs m low top (low + z)
+-- there is a 0 among the k before the seam
+pub runs-before : {m : List ℕ} {low top at k z : ℕ} → Zero (take (at + k - at) (drop at m)) 0 z → at ≡ low % capacity → k ≡ min (top - low) (capacity - at) → z < k
+    → low ≤ top → length m ≡ capacity → Runs m low top (low + z)
 unfolding of mark
-runs-straight {m} {low} {top} {z} f₀ h le n =
-    let f = found-part m (low % capacity) (low % capacity + (top - low) - low % capacity) f₀ (omega arith) in
-    let w = f .within in record {
+runs-before {m} {low} {top} {at} {k} {z} f₀ ea ek lt le n =
+    let f = found-part m at (at + k - at) f₀ (omega arith) in record {
       low-l = omega arith;
       l-top = omega arith;
       marked = λ q a b.
-          let i : q % capacity ≡ low % capacity + (q - low) = omega arith in
+          let i : q % capacity ≡ at + (q - low) = omega arith in
           let x = f .before (q - low) (omega arith) in
-          let y : 0 < getD m (low % capacity + (q - low)) 0 = omega arith in
+          let y : 0 < getD m (at + (q - low)) 0 = omega arith in
           rw i y;
-      stop = λ k. let i : (low + z) % capacity ≡ low % capacity + z = omega arith in rw i (f .found (omega arith));
-    }
-
--- it does, and there is a 0 before the seam
-pub runs-before : {m : List ℕ} {low top z : ℕ} → Zero (take (capacity - low % capacity) (drop (low % capacity) m)) 0 z
-    → capacity - low % capacity < top - low → z < capacity - low % capacity → low ≤ top → length m ≡ capacity
-    → Runs m low top (low + z)
-unfolding of mark
-runs-before {m} {low} {top} {z} f₀ h lt le n =
-    let f = found-part m (low % capacity) (capacity - low % capacity) f₀ (omega arith) in record {
-      low-l = omega arith;
-      l-top = omega arith;
-      marked = λ q a b.
-          let i : q % capacity ≡ low % capacity + (q - low) = omega arith in
-          let x = f .before (q - low) (omega arith) in
-          let y : 0 < getD m (low % capacity + (q - low)) 0 = omega arith in
-          rw i y;
-      stop = λ k. let i : (low + z) % capacity ≡ low % capacity + z = omega arith in rw i (f .found lt);
+      stop = λ h. let i : (low + z) % capacity ≡ at + z = omega arith in rw i (f .found (omega arith));
     }
 
 -- or there is none: on from the ring's start
-pub runs-across : {m : List ℕ} {low top z y : ℕ} → Zero (take (capacity - low % capacity) (drop (low % capacity) m)) 0 z
-    → Zero (take (top - low - (capacity - low % capacity) - 0) (drop 0 m)) 0 y
-    → capacity - low % capacity < top - low → capacity - low % capacity ≤ z → top ≤ low + capacity → length m ≡ capacity
-    → Runs m low top (low + (capacity - low % capacity) + y)
+runs-on : {m : List ℕ} {low top at k z y : ℕ} → Zero (take (at + k - at) (drop at m)) 0 z → Zero (take (top - low - k - 0) (drop 0 m)) 0 y
+    → at ≡ low % capacity → low + k ≤ top → at + k ≤ capacity → (low + k < top → at + k ≡ capacity) → k ≤ z → top ≤ low + capacity → length m ≡ capacity
+    → Runs m low top (low + k + y)
 unfolding of mark
-runs-across {m} {low} {top} {z} {y} f₀ g₀ h ge up n =
-    let f = found-part m (low % capacity) (capacity - low % capacity) f₀ (omega arith) in
-    let g = found-part m 0 (top - low - (capacity - low % capacity) - 0) g₀ (omega arith) in
-    let w = g .within in
-    let v = f .within in record {
+runs-on {m} {low} {top} {at} {k} {z} {y} f₀ g₀ ea kt fits seam ge up n =
+    let f = found-part m at (at + k - at) f₀ (omega arith) in
+    let g = found-part m 0 (top - low - k - 0) g₀ (omega arith) in
+    let w : low + k + y ≤ top = omega (arith, g .within) in record {
       low-l = omega arith;
-      l-top = omega arith;
+      l-top = w;
       marked = λ q a b.
           ⊎-elim
           (λ c.
-          let i : q % capacity ≡ low % capacity + (q - low) = omega arith in
+          let i : q % capacity ≡ at + (q - low) = omega arith in
           let x = f .before (q - low) (omega arith) in
-          let y : 0 < getD m (low % capacity + (q - low)) 0 = omega arith in
+          let y : 0 < getD m (at + (q - low)) 0 = omega arith in
           rw i y)
           (λ c.
-          let j : ℕ = q - low - (capacity - low % capacity) in
+          let e = seam (omega arith) in
+          let j : ℕ = q - (low + k) in
           let i : q % capacity ≡ 0 + j = omega arith in
           let x = g .before j (omega arith) in
           let y : 0 < getD m (0 + j) 0 = omega arith in
           rw i y)
-          (split q (low + (capacity - low % capacity)));
-      stop = λ k. let i : (low + (capacity - low % capacity) + y) % capacity ≡ 0 + y = omega arith in rw i (g .found (omega arith));
+          (split q (low + k));
+      stop = λ h.
+          let e = seam (omega arith) in
+          let i : (low + k + y) % capacity ≡ 0 + y = omega arith in
+          rw i (g .found (omega arith));
     }
 
--- no mark in low .. top - 1: the same three ways
+pub runs-across : {m : List ℕ} {low top at k z y : ℕ} → Zero (take (at + k - at) (drop at m)) 0 z → Zero (take (top - low - k - 0) (drop 0 m)) 0 y
+    → at ≡ low % capacity → k ≡ min (top - low) (capacity - at) → k ≤ z → low ≤ top → top ≤ low + capacity → length m ≡ capacity
+    → Runs m low top (low + k + y)
+runs-across f g ea ek ge le up n = runs-on f g ea (omega arith) (omega arith) (λ h. omega arith) ge up n
+
+-- no mark in a .. b - 1: the same two ways
 blank-at : (m : List ℕ) (a k : ℕ) {r : ℕ} → Blank (take k (drop a m)) r → a + k ≤ length m → r ≡ 0 → (j : ℕ) → j < k → getD m (a + j) 0 ≡ 0
 blank-at m a k f fits e j h =
     let l : length (take k (drop a m)) ≡ k = simp (length-take, length-drop) (omega arith) in
     sym (getD-take k (drop a m) j 0 h ∙ getD-drop a m j 0) ∙ f .zero e j (omega arith)
 
-pub unmarked-straight : {m : List ℕ} {a b r : ℕ} → Blank (take (a % capacity + (b - a) - a % capacity) (drop (a % capacity) m)) r
-    → b - a ≤ capacity - a % capacity → a ≤ b → length m ≡ capacity
+unmarked-on : {m : List ℕ} {a b at z r : ℕ} (k : ℕ) → Blank (take (at + k - at) (drop at m)) z → z ≡ 0 → Blank (take (b - a - k - 0) (drop 0 m)) r
+    → at ≡ a % capacity → a + k ≤ b → at + k ≤ capacity → (a + k < b → at + k ≡ capacity) → b ≤ a + capacity → length m ≡ capacity
     → Unmarked m a b r
 unfolding of mark
-unmarked-straight {m} {a} {b} {r} f h le n = record {
-  none = λ e q lo hi.
-      let i : q % capacity ≡ a % capacity + (q - a) = omega arith in
-      rw i (blank-at m (a % capacity) (a % capacity + (b - a) - a % capacity) f (omega arith) e (q - a) (omega arith));
-}
-
-pub unmarked-not : {m : List ℕ} {a b : ℕ} → Unmarked m a b 1
-unmarked-not = record { none = λ e. absurd (omega arith) }
-
-pub unmarked-across : {m : List ℕ} {a b z r : ℕ} → Blank (take (capacity - a % capacity) (drop (a % capacity) m)) z → z ≡ 0
-    → Blank (take (b - a - (capacity - a % capacity) - 0) (drop 0 m)) r
-    → capacity - a % capacity < b - a → b ≤ a + capacity → length m ≡ capacity
-    → Unmarked m a b r
-unfolding of mark
-unmarked-across {m} {a} {b} {z} {r} f y g h up n = record {
+unmarked-on {m} {a} {b} {at} {z} {r} k f y g ea kb fits seam up n = record {
   none = λ e q lo hi.
       ⊎-elim
       (λ c.
-      let i : q % capacity ≡ a % capacity + (q - a) = omega arith in
-      rw i (blank-at m (a % capacity) (capacity - a % capacity) f (omega arith) y (q - a) (omega arith)))
+      let i : q % capacity ≡ at + (q - a) = omega arith in
+      rw i (blank-at m at (at + k - at) f (omega arith) y (q - a) (omega arith)))
       (λ c.
-      let j : ℕ = q - a - (capacity - a % capacity) in
+      let s = seam (omega arith) in
+      let j : ℕ = q - (a + k) in
       let i : q % capacity ≡ 0 + j = omega arith in
-      rw i (blank-at m 0 (b - a - (capacity - a % capacity) - 0) g (omega arith) e j (omega arith)))
-      (split q (a + (capacity - a % capacity)));
+      rw i (blank-at m 0 (b - a - k - 0) g (omega arith) e j (omega arith)))
+      (split q (a + k));
 }
 
-pub unmarked-zero : {m : List ℕ} {a b r : ℕ} → Unmarked m a b r → r ≡ 0 → Unmarked m a b 0
-unmarked-zero u e = rw e at u
+pub unmarked-across : {m : List ℕ} {a b at k z r : ℕ} → Blank (take (at + k - at) (drop at m)) z → z ≡ 0 → Blank (take (b - a - k - 0) (drop 0 m)) r
+    → at ≡ a % capacity → k ≡ min (b - a) (capacity - at) → a ≤ b → b ≤ a + capacity → length m ≡ capacity
+    → Unmarked m a b r
+unmarked-across {k = k} f y g ea ek le up n = unmarked-on k f y g ea (omega arith) (omega arith) (λ h. omega arith) up n
 
 pub stored-none : {r m bs : List ℕ} {p a : ℕ} → Stored r m p bs a a r m
 stored-none = record {
@@ -261,21 +238,23 @@ put-written {r} {r′} {bs} {a} {p} w lo hi =
 pub stored-all : {r m r′ m′ bs : List ℕ} {p a b e : ℕ} → Stored r m p bs a b r′ m′ → b ≤ e → e ≤ b → Stored r m p bs a e r′ m′
 stored-all s h k = let z = le-antisymm h k in rw z at s
 
--- the two ways through a turn of the loop
-pub stored-turn-set : {r m r′ m′ r″ m″ bs : List ℕ} {p a b e : ℕ} → Stored r m p bs a b r′ m′ → length r ≡ capacity → length m ≡ capacity → a ≤ b → b < e
+-- the two ways through a turn of the loop, with j the index of b
+pub stored-turn-set : {r m r′ m′ r″ m″ bs : List ℕ} {p a b e j : ℕ} → Stored r m p bs a b r′ m′ → length r ≡ capacity → length m ≡ capacity → a ≤ b → b < e
     → e ≤ a + capacity
-    → getD m′ (b % capacity) 0 ≡ 0
-    → r″ ≡ set r′ (b % capacity) (getD bs (b - p) 0)
-    → m″ ≡ set m′ (b % capacity) 1
+    → j ≡ b % capacity
+    → getD m′ j 0 ≡ 0
+    → r″ ≡ set r′ j (getD bs (b - p) 0)
+    → m″ ≡ set m′ j 1
     → Stored r m p bs a (b + 1) r″ m″
-stored-turn-set s nr nm lo lt up h x y = rw (x, y) (stored-set s nr nm lo lt up h)
+stored-turn-set {m′ = m′} s nr nm lo lt up i h x y = rw (x, y, i) (stored-set s nr nm lo lt up (ap (λ (z : ℕ). getD m′ z 0) (sym i) ∙ h))
 
-pub stored-turn-skip : {r m r′ m′ r″ m″ bs : List ℕ} {p a b e : ℕ} → Stored r m p bs a b r′ m′ → a ≤ b → b < e → e ≤ a + capacity
-    → (getD m′ (b % capacity) 0 ≡ 0 → ⊥)
+pub stored-turn-skip : {r m r′ m′ r″ m″ bs : List ℕ} {p a b e j : ℕ} → Stored r m p bs a b r′ m′ → a ≤ b → b < e → e ≤ a + capacity
+    → j ≡ b % capacity
+    → (getD m′ j 0 ≡ 0 → ⊥)
     → r″ ≡ r′
     → m″ ≡ m′
     → Stored r m p bs a (b + 1) r″ m″
-stored-turn-skip s lo lt up h x y = rw (x, y) (stored-skip s lo lt up h)
+stored-turn-skip {m′ = m′} s lo lt up i h x y = rw (x, y) (stored-skip s lo lt up (λ z. h (ap (λ (z : ℕ). getD m′ z 0) i ∙ z)))
 
 put-filled : {m m′ : List ℕ} {a v : ℕ} (n b : ℕ) → Put m a (replicate n v) m′ → b ≡ a + n → Filled m v a b m′
 put-filled {m} {m′} {a} {v} n b w e =
@@ -342,13 +321,3 @@ advanced {m} {m′} {low} {top} {l} x w =
       marks-same = f .beside .length-same;
       moves = record { low-l = lo; l-top = x .l-top; same = f .beside .same; cleared = f .into; marked = x .marked; stop = x .stop };
     }
-
--- one turn further is the same place
-pub mark-turn : (l : List ℕ) (q : ℕ) → capacity ≤ q → mark l q ≡ mark l (q - capacity)
-unfolding of mark
-mark-turn l q h = let e : q % capacity ≡ (q - capacity) % capacity = omega arith in rw e
-
--- where every mark is 0, none is set
-pub mark-none : {m : List ℕ} → m ≡ replicate capacity 0 → (q : ℕ) → mark m q ≡ 0
-unfolding of mark
-mark-none e q = rw e (getD-replicate {A = ℕ} capacity (q % capacity) 0 0 (omega arith))

@@ -1,17 +1,17 @@
--- `receiving::marked` meets its contract. Assumes nothing.
+-- `arrivals::marked` meets its contract. Assumes nothing.
 use borrow.Author.Needs.{needs}
-use Rattle.receiving.proofs.StepsLaws.{unmarked-straight, unmarked-across}
-use Rattle.receiving.proofs.marked.Statement.{statement}
-use Rattle.receiving.proofs.marked.Tie as tie
-
-rem-at : tie.Need-rem-at
-rem-at c = search needs
+use Rattle.arrivals.proofs.StepsLaws.{unmarked-across}
+use Rattle.arrivals.proofs.marked.Statement.{statement}
+use Rattle.arrivals.proofs.marked.Tie as tie
 
 sub-n : tie.Need-sub-n
 sub-n c = search needs
 
-sub-room : tie.Need-sub-room
-sub-room c = search needs
+index-requires : tie.Need-index-requires
+index-requires c κs = search needs
+
+before-seam-requires : tie.Need-before-seam-requires
+before-seam-requires c κs = search needs
 
 add-nonzero : tie.Need-add-nonzero
 add-nonzero c = search needs
@@ -29,10 +29,13 @@ nonzero-requires : tie.Need-nonzero-requires
 nonzero-requires c κs = search needs
 
 returns : tie.Need-returns
-returns c = search (needs, unmarked-straight)
+returns c = search needs
 
 sub-nonzero-2 : tie.Need-sub-nonzero-2
 sub-nonzero-2 c = search needs
+
+sub-nonzero-3 : tie.Need-sub-nonzero-3
+sub-nonzero-3 c = search needs
 
 part-nonzero-start-2 : tie.Need-part-nonzero-start-2
 part-nonzero-start-2 c = search needs
@@ -44,33 +47,15 @@ nonzero-requires-2 : tie.Need-nonzero-requires-2
 nonzero-requires-2 c κs = search needs
 
 returns-2 : tie.Need-returns-2
-returns-2 c = search needs
-
-sub-nonzero-3 : tie.Need-sub-nonzero-3
-sub-nonzero-3 c = search needs
-
-sub-nonzero-4 : tie.Need-sub-nonzero-4
-sub-nonzero-4 c = search needs
-
-part-nonzero-start-3 : tie.Need-part-nonzero-start-3
-part-nonzero-start-3 c = search needs
-
-part-nonzero-end-3 : tie.Need-part-nonzero-end-3
-part-nonzero-end-3 c = search needs
-
-nonzero-requires-3 : tie.Need-nonzero-requires-3
-nonzero-requires-3 c κs = search needs
-
-returns-3 : tie.Need-returns-3
-returns-3 c = search (needs, unmarked-across)
+returns-2 c = search (needs, unmarked-across)
 
 pub marked-spec : {M : Type 1} → statement M
 marked-spec =
     tie.close
     (tie.spec
-    rem-at
     sub-n
-    sub-room
+    index-requires
+    before-seam-requires
     add-nonzero
     sub-nonzero
     part-nonzero-start
@@ -78,13 +63,8 @@ marked-spec =
     nonzero-requires
     returns
     sub-nonzero-2
+    sub-nonzero-3
     part-nonzero-start-2
     part-nonzero-end-2
     nonzero-requires-2
-    returns-2
-    sub-nonzero-3
-    sub-nonzero-4
-    part-nonzero-start-3
-    part-nonzero-end-3
-    nonzero-requires-3
-    returns-3)
+    returns-2)
