@@ -10,8 +10,9 @@ use mathlib.Core.Bool.{true, false}
 use borrow.Author.Tests.{eq-eqb, ne-eqb}
 use Rattle.wire.specs.Datagram.{ceiling}
 use Rattle.ring.specs.Ring.{capacity}
-use Rattle.receiving.specs.Receiving.{Receiving, at, fillCells, fillOf, hearOf, endOf, of, mark, cellsOf, Ranged, Sound, receivingOf}
-use Rattle.receiving.specs.Steps.{Written, Stored, Placed, Advanced, Unmarked}
+use Rattle.receiving.specs.Receiving.{Receiving, at, fillCells, fillOf, hearOf, endOf, cellsOf, Ranged, Sound, receivingOf}
+use Rattle.arrivals.specs.Marks.{of, mark}
+use Rattle.arrivals.specs.Steps.{Written, Stored, Placed, Advanced, Unmarked}
 use Rattle.receiving.specs.Calls.{New, Fills, Hears}
 use Rattle.receiving.proofs.FillingLaws.{filling-cells, lays-filling, moves-cells, order-filling, old-filling, none-filling, after-clear, after-beyond, after-top, follow-clear, follow-beyond, follow-top}
 use Rattle.laws.specs.Split.{split}
@@ -162,3 +163,6 @@ hears-none {r} {m} {r′} {m′} {bs} {s} {t} {p} {e} f h =
       done = f .done;
       read = λ x. rw k (f .read x);
     }
+
+pub unmarked-zero : {m : List ℕ} {a b r : ℕ} → Unmarked m a b r → r ≡ 0 → Unmarked m a b 0
+unmarked-zero u e = rw e at u

@@ -8,7 +8,7 @@ use lib.ListN.{length, getD}
 use lib.Seq.{ext-getD}
 use Rattle.ring.specs.Ring.{capacity}
 use Rattle.receiving.specs.Receiving.{Cell, missing, byte, first, fillCells, cellAt, cellsOf, Ranged, Clear}
-use Rattle.receiving.specs.Steps.{Same, Lays, Moves}
+use Rattle.arrivals.specs.Steps.{Same, Lays, Moves}
 use Rattle.laws.specs.Split.{split}
 use Rattle.receiving.specs.CellLaws.{length-fill, fill-before, fill-in, fill-after}
 use Rattle.receiving.specs.ReadLaws.{cell-low, cell-missing, cell-marked, cell-same, length-cells, cells-at}

@@ -1,5 +1,4 @@
 -- What the proofs of several functions share.
-pub mod StepsLaws
 pub mod FillingLaws
 pub mod FillLaws
 pub mod TakeLaws

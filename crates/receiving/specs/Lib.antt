@@ -1,6 +1,5 @@
 -- 01 §5: definitions, what the calls ensure, and laws.
 pub mod Receiving
-pub mod Steps
 pub mod Calls
 pub mod CellLaws
 pub mod ReadLaws

@@ -12,7 +12,8 @@ use borrow.Author.Tests.{lt-ltb, le-ltb, le-leb, leb-true, not-false}
 use Rattle.laws.specs.Choice.{if-case}
 use Rattle.wire.specs.Datagram.{ceiling}
 use Rattle.ring.specs.Ring.{capacity}
-use Rattle.receiving.specs.Receiving.{Cell, missing, byte, End, none, at, lead, lowOf, reach, highOf, of, mark, marked, cellAt, cellsFrom, cellsOf, endOf, endAt, receivingOf, Ranged, Sound, plausibleOf}
+use Rattle.arrivals.specs.Marks.{of, mark}
+use Rattle.receiving.specs.Receiving.{Cell, missing, byte, End, none, at, lead, lowOf, reach, highOf, marked, cellAt, cellsFrom, cellsOf, endOf, endAt, receivingOf, Ranged, Sound, plausibleOf}
 use Rattle.receiving.specs.Receiving.{endedOf, ackPosition, ackCredit, refusalOf}
 use Rattle.receiving.specs.Calls.{refusal, endedBy, positionBy, creditBy}
 use Rattle.laws.specs.Split.{split}

@@ -1,14 +1,15 @@
 -- 01 §5, and rows 8 and 9 of §3: the receiving side as a list of cells, and how it is read out of the lent buffers.
-use Prim.Native.Nat.{ℕ, zero, suc, _+_, _-_, _≤_, _<_, _%_}
+use Prim.Native.Nat.{ℕ, zero, suc, _+_, _-_, _≤_, _<_}
 use mathlib.Core.Path.{_≡_}
 use mathlib.Core.Bool.{Bool, false, not}
 use mathlib.Core.List.{List, [], _∷_, _++_}
-use lib.ListN.{length, take, drop, getD, replicate}
+use lib.ListN.{length, take, drop, replicate}
 use lib.Dec.{eqb, leb, ltb}
 use Rattle.laws.specs.Choice.{if}
 use Rattle.laws.specs.Rows.{when, _orElse_, branch}
 use Rattle.wire.specs.Datagram.{ceiling}
 use Rattle.ring.specs.Ring.{capacity}
+use Rattle.arrivals.specs.Marks.{of, mark}
 use Rattle.receiving.specs.declared.Scalars.{Scalars}
 
 pub data Cell : Type 0 where
@@ -128,14 +129,6 @@ unfoldable pub refusalOf : Receiving → ℕ → ℕ → ℕ → ℕ
 refusalOf v p n e = refusalBy (v .taken) (v .end) (highOf v) p n e
 
 -- THE LENT BUFFERS: scalars, a ring of bytes, and marks for what lies beyond the lowest missing position
-
--- what a ring has for position q
-unfoldable pub of : List ℕ → ℕ → ℕ
-of l q = getD l (q % capacity) 0
-
--- the mark of position q: 0 is missing
-unfoldable pub mark : List ℕ → ℕ → ℕ
-mark = of
 
 unfoldable pub marked : ℕ → ℕ → Cell
 marked zero b = missing

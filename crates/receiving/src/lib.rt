@@ -1,11 +1,11 @@
 // 01 section 5: what has arrived, in a ring of bytes, with marks for what lies beyond the lowest missing position.
 ghost use mathlib.Core.Path.{_≡_};
-ghost use Prim.Native.Nat.{_+_, _-_, _≤_, _<_, min, max};
+ghost use Prim.Native.Nat.{_+_, _≤_};
 ghost use lib.ListN.{length};
 ghost use Rattle.wire.specs.Datagram.{ceiling};
 ghost use Rattle.ring.specs.Ring.{capacity};
 ghost use Rattle.receiving.specs.Receiving.{endOf, endAt, beyondOf, misplacedOf, Ranged, plausibleOf};
-ghost use Rattle.receiving.specs.Steps.{Written, Stored, Laid, Placed, Runs, Advanced, Unmarked};
+ghost use Rattle.arrivals.specs.Steps.{Unmarked};
 ghost use Rattle.receiving.specs.Calls.{Lent, Room, New, Starts, Fills, Hears, Takes, refusal, endedBy, positionBy, creditBy};
 use ring::CAPACITY;
 use wire::CEILING;
@@ -19,24 +19,12 @@ pub struct Scalars {
     pub end: u64,
 }
 
-fn least(a: u64, b: u64) -> u64
-    ensures { λ r. ⌜ r ≡ min a b ⌝ }
-{
-    if a <= b { a } else { b }
-}
-
-fn most(a: u64, b: u64) -> u64
-    ensures { λ r. ⌜ r ≡ max a b ⌝ }
-{
-    if a <= b { b } else { a }
-}
-
 // Nothing has arrived and nothing is taken: clears every mark.
 pub fn start(marks: &mut [u8]) -> Scalars
     requires { ⌜ length (now marks) ≡ capacity ⌝ }
     ensures { λ r. ⌜ Starts (now (marks .entry)) (now (marks .exit)) r ⌝ }
 {
-    ring::fill(marks, 0);
+    copies::fill(marks, 0);
     Scalars {
         taken: 0,
         low: 0,
@@ -62,100 +50,15 @@ pub fn plausible(s: Scalars) -> bool
     s.high <= s.taken + CAPACITY as u64
 }
 
-// Bytes of src, which starts at position p, from position a on: straight into the ring.
-fn write(ring: &mut [u8], p: u64, src: &[u8], a: u64)
-    requires { ⌜ length (now ring) ≡ capacity ⌝ }
-    requires { ⌜ length (now src) ≤ capacity ⌝ }
-    requires { ⌜ (p ≤ a) × (a ≤ p + length (now src)) ⌝ }
-    ensures { λ _. ⌜ Written (now (ring .entry)) p (now (src .entry)) a (p + length (now (src .entry))) (now (ring .exit)) ⌝ }
-{
-    let k = (a - p) as usize;
-    ring::ring_put(ring, a, &src[k..]);
-}
-
-// Position by position, from a to b - 1: a byte of src goes where there is no mark.
-fn store(ring: &mut [u8], marks: &mut [u8], p: u64, src: &[u8], a: u64, b: u64)
-    requires { ⌜ (length (now ring) ≡ capacity) × (length (now marks) ≡ capacity) ⌝ }
-    requires { ⌜ ((p ≤ a) × (a ≤ b)) × ((b ≤ p + length (now src)) × (b ≤ a + capacity)) ⌝ }
-    ensures { λ _. ⌜ Stored (now (ring .entry)) (now (marks .entry)) p (now (src .entry)) a b (now (ring .exit)) (now (marks .exit)) ⌝ }
-{
-    let mut q = a;
-    while q < b {
-        let j = (q % CAPACITY as u64) as usize;
-        if marks[j] == 0 {
-            let k = (q - p) as usize;
-            ring[j] = src[k];
-            marks[j] = 1;
-        }
-        q += 1;
-    }
-}
-
-// The first position from low on without a mark, or top: no mark from top on is read.
-fn run(marks: &[u8], low: u64, top: u64) -> u64
-    requires { ⌜ length (now marks) ≡ capacity ⌝ }
-    requires { ⌜ ((low ≤ top) × (top ≤ low + capacity)) × (top ≤ ceiling) ⌝ }
-    ensures { λ r. ⌜ Runs (now (marks .entry)) low top r ⌝ }
-{
-    let at = (low % CAPACITY as u64) as usize;
-    let n = (top - low) as usize;
-    let room = CAPACITY - at;
-    if n <= room {
-        return low + ring::first_zero(&marks[at..at + n], 0) as u64;
-    }
-    let z = ring::first_zero(&marks[at..CAPACITY], 0);
-    if z < room {
-        return low + z as u64;
-    }
-    low + room as u64 + ring::first_zero(&marks[0..n - room], 0) as u64
-}
-
-// Passes and clears marks from low on, up to the first position without one, or top.
-fn advance(marks: &mut [u8], low: u64, top: u64) -> u64
-    requires { ⌜ length (now marks) ≡ capacity ⌝ }
-    requires { ⌜ ((low ≤ top) × (top ≤ low + capacity)) × (top ≤ ceiling) ⌝ }
-    ensures { λ r. ⌜ Advanced (now (marks .entry)) low top (now (marks .exit)) r ⌝ }
-{
-    let l = run(marks, low, top);
-    ring::ring_fill(marks, low, (l - low) as usize, 0);
-    l
-}
-
-// Positions a to the end of src, which starts at p: from edge on nothing has arrived.
-fn lay(ring: &mut [u8], marks: &mut [u8], p: u64, src: &[u8], a: u64, edge: u64)
-    requires { ⌜ (length (now ring) ≡ capacity) × (length (now marks) ≡ capacity) ⌝ }
-    requires { ⌜ ((p ≤ a) × (a ≤ edge)) × ((edge ≤ p + length (now src)) × (p + length (now src) ≤ a + capacity)) ⌝ }
-    requires { ⌜ (length (now src) ≤ capacity) × (p + length (now src) ≤ ceiling) ⌝ }
-    ensures { λ _. ⌜ Laid (now (ring .entry)) (now (marks .entry)) p (now (src .entry)) a edge (p + length (now (src .entry))) (now (ring .exit)) (now (marks .exit)) ⌝ }
-{
-    let n = (p + src.len() as u64 - edge) as usize;
-    write(ring, p, src, edge);
-    ring::ring_fill(marks, edge, n, 1);
-    store(ring, marks, p, src, a, edge);
-}
-
-// Every byte of src at low or above goes where it is missing: straight from high on, byte by byte below.
-fn place(ring: &mut [u8], marks: &mut [u8], p: u64, src: &[u8], low: u64, high: u64)
-    requires { ⌜ (length (now ring) ≡ capacity) × (length (now marks) ≡ capacity) ⌝ }
-    requires { ⌜ (low ≤ p + length (now src)) × (p + length (now src) ≤ low + capacity) ⌝ }
-    requires { ⌜ (length (now src) ≤ capacity) × (p + length (now src) ≤ ceiling) ⌝ }
-    ensures { λ _. ⌜ Placed (now (ring .entry)) (now (marks .entry)) p (now (src .entry)) low high (now (ring .exit)) (now (marks .exit)) ⌝ }
-{
-    let a = most(p, low);
-    let h = most(a, high);
-    let edge = least(h, p + src.len() as u64);
-    lay(ring, marks, p, src, a, edge);
-}
-
 // Out of order, or over positions of which some have arrived.
 fn slow(ring: &mut [u8], marks: &mut [u8], s: Scalars, p: u64, src: &[u8]) -> Scalars
     requires { ⌜ Lent s (now ring) (now marks) ⌝ }
     requires { ⌜ New s p (length (now src)) ⌝ }
     ensures { λ r. ⌜ Fills (now (ring .entry)) (now (marks .entry)) s p (now (src .entry)) (now (ring .exit)) (now (marks .exit)) r ⌝ }
 {
-    let top = most(s.high, p + src.len() as u64);
-    place(ring, marks, p, src, s.low, s.high);
-    let l = advance(marks, s.low, top);
+    let top = arrivals::most(s.high, p + src.len() as u64);
+    arrivals::place(ring, marks, p, src, s.low, s.high);
+    let l = arrivals::advance(marks, s.low, top);
     Scalars {
         taken: s.taken,
         low: l,
@@ -163,24 +66,6 @@ fn slow(ring: &mut [u8], marks: &mut [u8], s: Scalars, p: u64, src: &[u8]) -> Sc
         known: s.known,
         end: s.end,
     }
-}
-
-// 0 where no position from a to b - 1 has a mark.
-fn marked(marks: &[u8], a: u64, b: u64) -> u8
-    requires { ⌜ length (now marks) ≡ capacity ⌝ }
-    requires { ⌜ (a ≤ b) × (b ≤ a + capacity) ⌝ }
-    ensures { λ r. ⌜ Unmarked (now (marks .entry)) a b r ⌝ }
-{
-    let at = (a % CAPACITY as u64) as usize;
-    let n = (b - a) as usize;
-    let room = CAPACITY - at;
-    if n <= room {
-        return ring::nonzero(&marks[at..at + n]);
-    }
-    if ring::nonzero(&marks[at..CAPACITY]) != 0 {
-        return 1;
-    }
-    ring::nonzero(&marks[0..n - room])
 }
 
 // In order, and no position has a mark: one copy, and then low passes what has arrived beyond.
@@ -192,9 +77,9 @@ fn follow(ring: &mut [u8], marks: &mut [u8], s: Scalars, p: u64, src: &[u8]) -> 
     ensures { λ r. ⌜ Fills (now (ring .entry)) (now (marks .entry)) s p (now (src .entry)) (now (ring .exit)) (now (marks .exit)) r ⌝ }
 {
     let e = p + src.len() as u64;
-    let top = most(s.high, e);
-    write(ring, p, src, s.low);
-    let l = advance(marks, e, top);
+    let top = arrivals::most(s.high, e);
+    arrivals::write(ring, p, src, s.low);
+    let l = arrivals::advance(marks, e, top);
     Scalars {
         taken: s.taken,
         low: l,
@@ -213,7 +98,7 @@ fn in_order(ring: &mut [u8], marks: &mut [u8], s: Scalars, p: u64, src: &[u8]) -
 {
     let e = p + src.len() as u64;
     if s.high <= s.low {
-        write(ring, p, src, s.low);
+        arrivals::write(ring, p, src, s.low);
         return Scalars {
             taken: s.taken,
             low: e,
@@ -222,7 +107,7 @@ fn in_order(ring: &mut [u8], marks: &mut [u8], s: Scalars, p: u64, src: &[u8]) -
             end: s.end,
         };
     }
-    if marked(marks, s.low, e) != 0 {
+    if arrivals::marked(marks, s.low, e) != 0 {
         return slow(ring, marks, s, p, src);
     }
     follow(ring, marks, s, p, src)
@@ -331,7 +216,7 @@ pub fn take(ring: &[u8], s: Scalars, out: &mut [u8]) -> Scalars
     requires { ⌜ Ranged s ⌝ }
     ensures { λ r. ⌜ Takes (now (ring .entry)) s (now (out .entry)) (now (out .exit)) r ⌝ }
 {
-    let n = least(out.len() as u64, s.low - s.taken);
+    let n = arrivals::least(out.len() as u64, s.low - s.taken);
     let k = n as usize;
     ring::ring_get(&mut out[0..k], ring, s.taken);
     Scalars {

@@ -22,14 +22,3 @@ pub record Put (r : List ℕ) (pos : ℕ) (s q : List ℕ) : Type 0 where
 pub record Got (r : List ℕ) (pos n : ℕ) (d : List ℕ) : Type 0 where
   pub size : length d ≡ n
   pub read : (k : ℕ) → k < n → getD d k 0 ≡ getD r ((pos + k) % capacity) 0
-
--- r is the index of the first 0 of m from index a on, or m's length where there is none
-pub record Zero (m : List ℕ) (a r : ℕ) : Type 0 where
-  pub low : a ≤ r
-  pub high : r ≤ length m
-  pub before : (k : ℕ) → k < r → a ≤ k → getD m k 0 ≡ 0 → ⊥
-  pub found : r < length m → getD m r 0 ≡ 0
-
--- r is 0 only where every byte of m is
-pub record Blank (m : List ℕ) (r : ℕ) : Type 0 where
-  pub zero : r ≡ 0 → (k : ℕ) → k < length m → getD m k 0 ≡ 0

@@ -2,8 +2,7 @@
 use mathlib.Core.Path.{_≡_}
 use native.Mathlib.Omega.{arith}
 use borrow.Author.Needs.{needs}
-use Rattle.receiving.proofs.FillLaws.{fast-fills}
-use Rattle.receiving.proofs.StepsLaws.{unmarked-zero}
+use Rattle.receiving.proofs.FillLaws.{fast-fills, unmarked-zero}
 use Rattle.receiving.proofs.in_order.Statement.{statement}
 use Rattle.receiving.proofs.in_order.Tie as tie
 

@@ -1,22 +1,20 @@
 -- `ring::ring_put` meets its contract. Assumes nothing.
-use mathlib.Core.Path.{_≡_, _∙_, ap}
-use Prim.Native.Nat.{ℕ, _+_, _-_, _%_}
-use native.Mathlib.Omega.{arith}
-use lib.ListN.{length, take, drop}
-use Rattle.ring.proofs.Ring.{put-one, put-two}
+use Rattle.ring.proofs.Ring.{put-parts}
 use borrow.Author.Needs.{needs}
-use Rattle.ring.specs.Ring.{capacity}
 use Rattle.ring.proofs.ring_put.Statement.{statement}
 use Rattle.ring.proofs.ring_put.Tie as tie
 
-rem-at : tie.Need-rem-at
-rem-at c = search needs
+index-requires : tie.Need-index-requires
+index-requires c κs = search needs
 
-sub-room : tie.Need-sub-room
-sub-room c = search needs
+before-seam-requires : tie.Need-before-seam-requires
+before-seam-requires c κs = search needs
 
-add-copy : tie.Need-add-copy
-add-copy c = search needs
+add-e : tie.Need-add-e
+add-e c = search needs
+
+sub-rest : tie.Need-sub-rest
+sub-rest c = search needs
 
 sub-copy : tie.Need-sub-copy
 sub-copy c = search needs
@@ -27,9 +25,6 @@ part-copy-start c = search needs
 part-copy-end : tie.Need-part-copy-end
 part-copy-end c = search needs
 
-copy-requires : tie.Need-copy-requires
-copy-requires c κs = search needs
-
 sub-copy-2 : tie.Need-sub-copy-2
 sub-copy-2 c = search needs
 
@@ -38,6 +33,9 @@ part-copy-start-2 c = search needs
 
 part-copy-end-2 : tie.Need-part-copy-end-2
 part-copy-end-2 c = search needs
+
+copy-requires : tie.Need-copy-requires
+copy-requires c κs = search needs
 
 sub-copy-3 : tie.Need-sub-copy-3
 sub-copy-3 c = search needs
@@ -48,14 +46,8 @@ part-copy-start-3 c = search needs
 part-copy-end-3 : tie.Need-part-copy-end-3
 part-copy-end-3 c = search needs
 
-copy-requires-2 : tie.Need-copy-requires-2
-copy-requires-2 c κs = search needs
-
 sub-copy-4 : tie.Need-sub-copy-4
 sub-copy-4 c = search needs
-
-sub-copy-5 : tie.Need-sub-copy-5
-sub-copy-5 c = search needs
 
 part-copy-start-4 : tie.Need-part-copy-start-4
 part-copy-start-4 c = search needs
@@ -63,78 +55,43 @@ part-copy-start-4 c = search needs
 part-copy-end-4 : tie.Need-part-copy-end-4
 part-copy-end-4 c = search needs
 
-sub-copy-6 : tie.Need-sub-copy-6
-sub-copy-6 c = search needs
-
-part-copy-start-5 : tie.Need-part-copy-start-5
-part-copy-start-5 c = search needs
-
-part-copy-end-5 : tie.Need-part-copy-end-5
-part-copy-end-5 c = search needs
-
-copy-requires-3 : tie.Need-copy-requires-3
-copy-requires-3 c κs = search needs
+copy-requires-2 : tie.Need-copy-requires-2
+copy-requires-2 c κs = search needs
 
 same-length : tie.Need-same-length
 same-length c = search needs
 
 returns : tie.Need-returns
 returns c =
-    let a = c .before .before .before .before .before .before .before .args in
-    let p = a .pos % capacity in
-    let n = length (a .src .now) in
-    put-one (a .ring .now) (a .src .now) (c .before .before .copy .last .0) (a .pos) (p + n - p) (omega arith) (omega arith) (omega arith)
-    (c .before .before .copy .ensures)
-    (search needs)
-
-same-length-2 : tie.Need-same-length-2
-same-length-2 c = search needs
-
-returns-2 : tie.Need-returns-2
-returns-2 c =
-    let a = c .before .before .before .before .before .before .before .before .before .before .before .before .before .args in
-    let s = a .src .now in
-    let k = capacity - a .pos % capacity in
-    let m = length s - k - 0 in
-    let y = c .before .before .before .before .before .before .before .copy2 in
-    let z = c .before .before .copy3 in
-    let n = length s in
-    let u : k - 0 ≡ k = omega arith in
-    let v : n - k ≡ m = omega arith in
-    put-two (a .ring .now) s (y .last .0) (z .last .0) (a .pos) k m (omega arith) (omega arith) (omega arith) (omega arith) (omega arith)
-    (y .ensures ∙ ap (λ (x : ℕ). take x s) u)
-    (z .ensures ∙ ap (λ (x : ℕ). take x (drop k s)) v)
-    (search needs)
-    (search needs)
-    (search needs)
+    let second = c .before .before in
+    let first = second .before .before .before .before .before in
+    let seam = first .before .before .before in
+    let start = seam .before .before .before .before in
+    let x = start .args in
+    put-parts (x .ring .now) (x .src .now) (first .copy .last .0) (second .copy2 .last .0) (x .pos) (seam .before .index .result) (seam .before-seam .result)
+    (start .pre .0) (start .pre .1) (seam .before .index .ensures) (seam .before-seam .ensures) (first .copy .ensures) (second .copy2 .ensures)
 
 pub ring-put-spec : {M : Type 1} → statement M
 ring-put-spec =
     tie.close
     (tie.spec
-    rem-at
-    sub-room
-    add-copy
+    index-requires
+    before-seam-requires
+    add-e
+    sub-rest
     sub-copy
     part-copy-start
     part-copy-end
-    copy-requires
     sub-copy-2
     part-copy-start-2
     part-copy-end-2
+    copy-requires
     sub-copy-3
     part-copy-start-3
     part-copy-end-3
-    copy-requires-2
     sub-copy-4
-    sub-copy-5
     part-copy-start-4
     part-copy-end-4
-    sub-copy-6
-    part-copy-start-5
-    part-copy-end-5
-    copy-requires-3
+    copy-requires-2
     same-length
-    returns
-    same-length-2
-    returns-2)
+    returns)

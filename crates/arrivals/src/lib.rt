@@ -1,0 +1,118 @@
+// 01 section 5: what has arrived, laid into a ring of bytes and a ring of marks, position by position.
+ghost use mathlib.Core.Path.{_≡_};
+ghost use Prim.Native.Nat.{_+_, _≤_, min, max};
+ghost use lib.ListN.{length};
+ghost use Rattle.wire.specs.Datagram.{ceiling};
+ghost use Rattle.ring.specs.Ring.{capacity};
+ghost use Rattle.arrivals.specs.Steps.{Written, Stored, Laid, Placed, Runs, Advanced, Unmarked};
+
+// The lower of two numbers.
+pub fn least(a: u64, b: u64) -> u64
+    ensures { λ r. ⌜ r ≡ min a b ⌝ }
+{
+    if a <= b { a } else { b }
+}
+
+// The higher of two numbers.
+pub fn most(a: u64, b: u64) -> u64
+    ensures { λ r. ⌜ r ≡ max a b ⌝ }
+{
+    if a <= b { b } else { a }
+}
+
+// Bytes of src, which starts at position p, from position a on: straight into the ring.
+pub fn write(ring: &mut [u8], p: u64, src: &[u8], a: u64)
+    requires { ⌜ length (now ring) ≡ capacity ⌝ }
+    requires { ⌜ length (now src) ≤ capacity ⌝ }
+    requires { ⌜ (p ≤ a) × (a ≤ p + length (now src)) ⌝ }
+    ensures { λ _. ⌜ Written (now (ring .entry)) p (now (src .entry)) a (p + length (now (src .entry))) (now (ring .exit)) ⌝ }
+{
+    let k = (a - p) as usize;
+    ring::ring_put(ring, a, &src[k..]);
+}
+
+// Position by position, from a to b - 1: a byte of src goes where there is no mark.
+fn store(ring: &mut [u8], marks: &mut [u8], p: u64, src: &[u8], a: u64, b: u64)
+    requires { ⌜ (length (now ring) ≡ capacity) × (length (now marks) ≡ capacity) ⌝ }
+    requires { ⌜ ((p ≤ a) × (a ≤ b)) × ((b ≤ p + length (now src)) × (b ≤ a + capacity)) ⌝ }
+    ensures { λ _. ⌜ Stored (now (ring .entry)) (now (marks .entry)) p (now (src .entry)) a b (now (ring .exit)) (now (marks .exit)) ⌝ }
+{
+    let mut q = a;
+    while q < b {
+        let j = ring::index(q);
+        if marks[j] == 0 {
+            let k = (q - p) as usize;
+            ring[j] = src[k];
+            marks[j] = 1;
+        }
+        q += 1;
+    }
+}
+
+// The first position from low on without a mark, or top: no mark from top on is read.
+fn run(marks: &[u8], low: u64, top: u64) -> u64
+    requires { ⌜ length (now marks) ≡ capacity ⌝ }
+    requires { ⌜ ((low ≤ top) × (top ≤ low + capacity)) × (top ≤ ceiling) ⌝ }
+    ensures { λ r. ⌜ Runs (now (marks .entry)) low top r ⌝ }
+{
+    let n = (top - low) as usize;
+    let at = ring::index(low);
+    let k = ring::before_seam(at, n);
+    let z = copies::first_zero(&marks[at..at + k], 0);
+    if z < k {
+        return low + z as u64;
+    }
+    low + k as u64 + copies::first_zero(&marks[0..n - k], 0) as u64
+}
+
+// Passes and clears marks from low on, up to the first position without one, or top.
+pub fn advance(marks: &mut [u8], low: u64, top: u64) -> u64
+    requires { ⌜ length (now marks) ≡ capacity ⌝ }
+    requires { ⌜ ((low ≤ top) × (top ≤ low + capacity)) × (top ≤ ceiling) ⌝ }
+    ensures { λ r. ⌜ Advanced (now (marks .entry)) low top (now (marks .exit)) r ⌝ }
+{
+    let l = run(marks, low, top);
+    ring::ring_fill(marks, low, (l - low) as usize, 0);
+    l
+}
+
+// Positions a to the end of src, which starts at p: from edge on nothing has arrived.
+fn lay(ring: &mut [u8], marks: &mut [u8], p: u64, src: &[u8], a: u64, edge: u64)
+    requires { ⌜ (length (now ring) ≡ capacity) × (length (now marks) ≡ capacity) ⌝ }
+    requires { ⌜ ((p ≤ a) × (a ≤ edge)) × ((edge ≤ p + length (now src)) × (p + length (now src) ≤ a + capacity)) ⌝ }
+    requires { ⌜ (length (now src) ≤ capacity) × (p + length (now src) ≤ ceiling) ⌝ }
+    ensures { λ _. ⌜ Laid (now (ring .entry)) (now (marks .entry)) p (now (src .entry)) a edge (p + length (now (src .entry))) (now (ring .exit)) (now (marks .exit)) ⌝ }
+{
+    let n = (p + src.len() as u64 - edge) as usize;
+    write(ring, p, src, edge);
+    ring::ring_fill(marks, edge, n, 1);
+    store(ring, marks, p, src, a, edge);
+}
+
+// Every byte of src at low or above goes where it is missing: straight from high on, byte by byte below.
+pub fn place(ring: &mut [u8], marks: &mut [u8], p: u64, src: &[u8], low: u64, high: u64)
+    requires { ⌜ (length (now ring) ≡ capacity) × (length (now marks) ≡ capacity) ⌝ }
+    requires { ⌜ (low ≤ p + length (now src)) × (p + length (now src) ≤ low + capacity) ⌝ }
+    requires { ⌜ (length (now src) ≤ capacity) × (p + length (now src) ≤ ceiling) ⌝ }
+    ensures { λ _. ⌜ Placed (now (ring .entry)) (now (marks .entry)) p (now (src .entry)) low high (now (ring .exit)) (now (marks .exit)) ⌝ }
+{
+    let a = most(p, low);
+    let h = most(a, high);
+    let edge = least(h, p + src.len() as u64);
+    lay(ring, marks, p, src, a, edge);
+}
+
+// 0 where no position from a to b - 1 has a mark.
+pub fn marked(marks: &[u8], a: u64, b: u64) -> u8
+    requires { ⌜ length (now marks) ≡ capacity ⌝ }
+    requires { ⌜ (a ≤ b) × (b ≤ a + capacity) ⌝ }
+    ensures { λ r. ⌜ Unmarked (now (marks .entry)) a b r ⌝ }
+{
+    let n = (b - a) as usize;
+    let at = ring::index(a);
+    let k = ring::before_seam(at, n);
+    if copies::nonzero(&marks[at..at + k]) != 0 {
+        return 1;
+    }
+    copies::nonzero(&marks[0..n - k])
+}

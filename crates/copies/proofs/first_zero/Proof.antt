@@ -1,0 +1,75 @@
+-- `copies::first_zero` meets its contract. Assumes nothing.
+use mathlib.Core.Path.{_≡_}
+use Prim.Native.Nat.{ℕ, _-_, _≤_, _<_}
+use lib.ListN.{length, getD}
+use borrow.Author.Needs.{needs}
+use Rattle.copies.proofs.SearchLaws.{more-nonzero, zero-from}
+use Rattle.copies.proofs.first_zero.Statement.{statement}
+use Rattle.copies.proofs.first_zero.Tie as tie
+
+abbrev Inv-loop : tie.InvT-loop
+Inv-loop m from i₀ i = (from ≤ i) × ((i ≤ length m) × ((k : ℕ) → k < i → from ≤ k → getD m k 0 ≡ 0 → ⊥))
+
+abbrev μ-loop : tie.MeasureT-loop
+μ-loop m from i₀ i = length m - i
+
+loop-holds : tie.Need-loop-holds Inv-loop μ-loop
+loop-holds c = search needs
+
+sub-loop : tie.Need-sub-loop Inv-loop μ-loop
+sub-loop c = search needs
+
+zeros-requires : tie.Need-zeros-requires Inv-loop μ-loop
+zeros-requires c κs = search needs
+
+first-zero-slow-requires : tie.Need-first-zero-slow-requires Inv-loop μ-loop
+first-zero-slow-requires c κs = search needs
+
+returns : tie.Need-returns Inv-loop μ-loop
+returns c =
+    let a = c .before .before .before .before .before .before .args in
+    let l = c .before .before .before .before .loop in
+    zero-from (a .m .now) (a .from) (l .i) (c .first-zero-slow .result) (l .inv .0) (l .inv .1 .1) (c .first-zero-slow .ensures)
+
+add-i : tie.Need-add-i Inv-loop μ-loop
+add-i c = search needs
+
+loop-less : tie.Need-loop-less Inv-loop μ-loop
+loop-less c = search needs
+
+loop-again : tie.Need-loop-again Inv-loop μ-loop
+loop-again c = (
+  search needs,
+  (
+    search needs,
+    more-nonzero (c .before .before .before .before .before .args .m .now) (c .before .before .before .before .before .args .from) (c .before .before .before .loop .i) 16
+        (c .before .before .before .loop .inv .1 .1)
+        (c .before .zeros .ensures (search needs)),
+  ),
+)
+
+first-zero-slow-requires-2 : tie.Need-first-zero-slow-requires-2 Inv-loop μ-loop
+first-zero-slow-requires-2 c κs = search needs
+
+returns-2 : tie.Need-returns-2 Inv-loop μ-loop
+returns-2 c =
+    let a = c .before .before .before .before .args in
+    let l = c .before .before .loop in
+    zero-from (a .m .now) (a .from) (l .i) (c .first-zero-slow2 .result) (l .inv .0) (l .inv .1 .1) (c .first-zero-slow2 .ensures)
+
+pub first-zero-spec : {M : Type 1} → statement M
+first-zero-spec =
+    tie.close
+    (tie.spec
+    Inv-loop
+    μ-loop
+    loop-holds
+    sub-loop
+    zeros-requires
+    first-zero-slow-requires
+    returns
+    add-i
+    loop-less
+    loop-again
+    first-zero-slow-requires-2
+    returns-2)

@@ -1,0 +1,2 @@
+-- What is found in a buffer.
+pub mod Search
