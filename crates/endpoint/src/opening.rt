@@ -11,7 +11,6 @@ use ring::CAPACITY;
 use table::Common;
 use table::Sends;
 use table::interval_row;
-use table::ring_size;
 use table::save_common;
 use table::save_scalars;
 use table::save_sends;
@@ -49,7 +48,7 @@ pub fn open_end(t: &mut [u64], marks: &mut [u8], epoch: u64, interval: u64)
     requires { ⌜ (tableWords ≤ length (now t)) × (capacity ≤ length (now marks)) ⌝ }
     ensures { λ _. ⌜ Opened (now (t .entry)) (now (marks .entry)) epoch interval (now (t .exit)) (now (marks .exit)) ⌝ }
 {
-    let k = ring_size();
+    let k = ring::size();
     let v = receiving::start(&mut marks[0..k]);
     let c = Common {
         opened: 1,

@@ -6,14 +6,13 @@ ghost use Rattle.ring.specs.Ring.{capacity};
 ghost use Rattle.table.specs.Layout.{tableWords, sectionsOf};
 ghost use Rattle.table.specs.ReadyLaws.{Ready};
 ghost use Rattle.endpoint.specs.Streams.{Finished, Gave, Took};
+use receiving::Scalars;
+use sending::Line;
 use table::Sends;
-use table::ring_size;
 use table::save_scalars;
 use table::save_sends;
 use table::scalars_in;
 use table::sends_in;
-use receiving::Scalars;
-use sending::Line;
 
 pub fn finish(t: &mut [u64])
     requires { ⌜ (tableWords ≤ length (now t)) × Ready (sectionsOf (now t)) ⌝ }
@@ -38,7 +37,7 @@ pub fn give(t: &mut [u64], outgoing: &mut [u8], bytes: &[u8]) -> u64
     let s = sends_in(t);
     let row = s.row;
     let line = s.line;
-    let k = ring_size();
+    let k = ring::size();
     let n = sending::give(&mut outgoing[0..k], line, row.acked, bytes);
     let longer = Line {
         given: line.given + n,
@@ -60,7 +59,7 @@ pub fn take(t: &mut [u64], incoming: &[u8], out: &mut [u8]) -> Scalars
     ensures { λ r. ⌜ Took (now (t .entry)) (now (incoming .entry)) (now (out .entry)) r (now (t .exit)) (now (out .exit)) ⌝ }
 {
     let s = scalars_in(t);
-    let k = ring_size();
+    let k = ring::size();
     let v = receiving::take(&incoming[0..k], s, out);
     save_scalars(&mut t[15..20], v);
     v

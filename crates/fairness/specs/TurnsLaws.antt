@@ -41,32 +41,32 @@ here-by {here = here} {known} {R = R} {t} {b} {T} {L} {D} v f h = go (decLe b (k
 module _ {sent answers here known : ℕ → ℕ} {come back : ℕ → ℕ → Type 0} {R t b T D : ℕ} (m W q : ℕ) (within : q ≤ W) (v : Turns sent answers here known come back R D t b T)
     (turns : (n : ℕ) → t ≤ n → n + W ≤ T → known (n + q) < b → Turn answers here b n W)
   where
-  -- L answers in a row from the first turn on
-  answers-row : (i : ℕ) → t ≤ i → 1 ≤ answers i → suc i + m * W ≤ T → known (suc i + m * W) < b → suc m ≤ count answers i (1 + m * W)
-  answers-row i from h l less =
-      let later : m ≤ count answers (i + 1) (m * W) =
-      many answers (i + 1) W m
-      (λ u a k.
-      let c = turns u (omega arith) (omega arith) (omega (arith, v .known-up (u + q) (suc i + m * W) (omega arith) (omega arith))) in
-      one answers u (c .tick) W (c .from) (c .below) (c .answered)) in
-      rw (count-add answers i 1 (m * W)) (omega (arith, one answers i i 1 (omega arith) (omega arith) h, later))
+    -- L answers in a row from the first turn on
+    answers-row : (i : ℕ) → t ≤ i → 1 ≤ answers i → suc i + m * W ≤ T → known (suc i + m * W) < b → suc m ≤ count answers i (1 + m * W)
+    answers-row i from h l less =
+        let later : m ≤ count answers (i + 1) (m * W) =
+        many answers (i + 1) W m
+        (λ u a k.
+        let c = turns u (omega arith) (omega arith) (omega (arith, v .known-up (u + q) (suc i + m * W) (omega arith) (omega arith))) in
+        one answers u (c .tick) W (c .from) (c .below) (c .answered)) in
+        rw (count-add answers i 1 (m * W)) (omega (arith, one answers i i 1 (omega arith) (omega arith) h, later))
 
-  after-turns : Fair answers back (suc m) D T → t + (W + m * W) + D ≤ T → b ≤ known (t + (W + m * W) + D)
-  after-turns g h = go (decLe b (known (t + (W + m * W))))
-    where
-      go : Dec (b ≤ known (t + (W + m * W))) → b ≤ known (t + (W + m * W) + D)
-      go (yes k) = omega (arith, v .known-up (t + (W + m * W)) (t + (W + m * W) + D) (omega arith) h)
-      go (no k) =
-          let top : ℕ = t + (W + m * W) in
-          let c = turns t (omega arith) (omega arith) (omega (arith, v .known-up (t + q) top (omega arith) (omega arith))) in
-          let i : ℕ = c .tick in
-          let few : known (suc i + m * W) < b = omega (arith, v .known-up (suc i + m * W) top (omega (arith, c .below)) (omega arith)) in
-          let row = answers-row i (c .from) (c .answered) (omega (arith, c .below)) few in
-          let a = fair-row g (v .answers-once) i (1 + m * W) row (omega (arith, c .below)) in
-          let last : suc (a .come) ≤ top + D = omega (arith, c .below, a .below, a .within) in
-          let seen : b ≤ here (suc (a .sent)) = omega (arith, c .there, v .here-up (suc i) (suc (a .sent)) (omega (arith, a .from)) (omega (arith, a .after))) in
-          let done = v .told (a .sent) (a .come) (omega (arith, c .from, a .from)) (a .after) (a .within) (omega arith) (a .arrived) seen in
-          omega (arith, v .known-up (suc (a .come)) (top + D) last h)
+    after-turns : Fair answers back (suc m) D T → t + (W + m * W) + D ≤ T → b ≤ known (t + (W + m * W) + D)
+    after-turns g h = go (decLe b (known (t + (W + m * W))))
+      where
+        go : Dec (b ≤ known (t + (W + m * W))) → b ≤ known (t + (W + m * W) + D)
+        go (yes k) = omega (arith, v .known-up (t + (W + m * W)) (t + (W + m * W) + D) (omega arith) h)
+        go (no k) =
+            let top : ℕ = t + (W + m * W) in
+            let c = turns t (omega arith) (omega arith) (omega (arith, v .known-up (t + q) top (omega arith) (omega arith))) in
+            let i : ℕ = c .tick in
+            let few : known (suc i + m * W) < b = omega (arith, v .known-up (suc i + m * W) top (omega (arith, c .below)) (omega arith)) in
+            let row = answers-row i (c .from) (c .answered) (omega (arith, c .below)) few in
+            let a = fair-row g (v .answers-once) i (1 + m * W) row (omega (arith, c .below)) in
+            let last : suc (a .come) ≤ top + D = omega (arith, c .below, a .below, a .within) in
+            let seen : b ≤ here (suc (a .sent)) = omega (arith, c .there, v .here-up (suc i) (suc (a .sent)) (omega (arith, a .from)) (omega (arith, a .after))) in
+            let done = v .told (a .sent) (a .come) (omega (arith, c .from, a .from)) (a .after) (a .within) (omega arith) (a .arrived) seen in
+            omega (arith, v .known-up (suc (a .come)) (top + D) last h)
 
 -- L * L * R + (L + 1) * D ticks are L turns and D more
 whole : (m D R t : ℕ) → t + dropTicks (suc m) D R ≡ t + (handTicks (suc m) D R + m * handTicks (suc m) D R) + D

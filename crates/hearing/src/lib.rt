@@ -10,16 +10,15 @@ ghost use Rattle.table.specs.Layout.{tableWords, sectionsOf, commonOf};
 ghost use Rattle.table.specs.ReadyLaws.{Ready};
 ghost use Rattle.hearing.specs.Hearing.{placeRow, judgeRow, hearRow, Noted, DataDone, AckDone, Heard};
 ghost use Rattle.hearing.specs.HearingLaws.{Judged, Hearing, HearReady};
+use sending::Line;
 use table::Common;
 use table::Sends;
 use table::common_in;
-use table::ring_size;
 use table::save_common;
 use table::save_scalars;
 use table::save_sends;
 use table::scalars_in;
 use table::sends_in;
-use sending::Line;
 use wire::Header;
 
 // Refusals 7, 8 and 9, or 0.
@@ -92,7 +91,7 @@ fn data(t: &mut [u64], incoming: &mut [u8], marks: &mut [u8], d: &[u8], h: Heade
     ensures { λ _. ⌜ DataDone (now (t .entry)) (now (incoming .entry)) (now (marks .entry)) (now (d .entry)) h (now (t .exit)) (now (incoming .exit)) (now (marks .exit)) ⌝ }
 {
     let s = scalars_in(t);
-    let k = ring_size();
+    let k = ring::size();
     let v = receiving::hear(
         &mut incoming[0..k],
         &mut marks[0..k],

@@ -2,7 +2,6 @@
 ghost use mathlib.Core.Path.{_≡_};
 ghost use Prim.Native.Nat.{ℕ, _+_, _≤_, _<_};
 ghost use lib.ListN.{length};
-ghost use Rattle.ring.specs.Ring.{capacity};
 ghost use Rattle.table.specs.Layout.{tableWords, sectionsOf, commonOf, commonWords, sendsOf, sendsWords, scalarsOf, scalarsWords};
 ghost use Rattle.table.specs.Rows.{intervalRow, shortRow, goingOf, openedOf, readyOf};
 use receiving::Scalars;
@@ -142,13 +141,6 @@ pub fn save_scalars(w: &mut [u64], s: Scalars)
     w[2] = s.high;
     w[3] = s.known;
     w[4] = s.end;
-}
-
-// The bytes of a ring.
-pub fn ring_size() -> usize
-    ensures { λ r. ⌜ r ≡ capacity ⌝ }
-{
-    CAPACITY
 }
 
 // Copies all of src into dst.

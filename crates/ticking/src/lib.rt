@@ -10,18 +10,17 @@ ghost use Rattle.table.specs.Layout.{tableWords, sectionsOf, commonOf};
 ghost use Rattle.table.specs.Rows.{outputLeast, outputRow};
 ghost use Rattle.table.specs.ReadyLaws.{Ready};
 ghost use Rattle.ticking.specs.Ticking.{clockBy, allowanceBy, acksBy, AckSent, SegmentsSent, SendReady, Planned, AckReady, AckOver, TickReady, Ticked};
+use sending::Sent;
+use sending::Stamp;
+use sending::Tick;
 use table::Common;
 use table::Sends;
 use table::common_in;
 use table::copy_words;
-use table::ring_size;
 use table::save_common;
 use table::save_sends;
 use table::scalars_in;
 use table::sends_in;
-use sending::Sent;
-use sending::Stamp;
-use sending::Tick;
 use wire::CEILING;
 use wire::Header;
 
@@ -130,7 +129,7 @@ fn send_segments(t: &mut [u64], outgoing: &[u8], out: &mut [u8], w: Tick, e: Sta
     let row = s.row;
     let mut times = [0u64; 64];
     copy_words(&mut times, &t[100..164]);
-    let k = ring_size();
+    let k = ring::size();
     let r = sending::send(
         out,
         &outgoing[0..k],

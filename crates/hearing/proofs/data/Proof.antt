@@ -8,8 +8,8 @@ use Rattle.hearing.proofs.data.Tie as tie
 scalars-in-requires : tie.Need-scalars-in-requires
 scalars-in-requires c κs = search needs
 
-ring-size-requires : tie.Need-ring-size-requires
-ring-size-requires c κs = search needs
+size-requires : tie.Need-size-requires
+size-requires c κs = search needs
 
 sub-hear : tie.Need-sub-hear
 sub-hear c = search needs
@@ -41,7 +41,7 @@ part-hear-end-3 c = search needs
 hear-requires : tie.Need-hear-requires
 hear-requires c κs =
     let a = c .before .before .before .before .before .before .before .before .before .before in
-    (data-lent (ring-sized (c .before .before .before .ring-size .ensures)) (a .args .incoming .now) (a .args .marks .now) (a .pre .0) (c .before .before .before .before .scalars-in .ensures), data-room (a .pre .0) (a .pre .1) (c .before .before .before .before .scalars-in .ensures))
+    (data-lent (ring-sized (c .before .before .before .size .ensures)) (a .args .incoming .now) (a .args .marks .now) (a .pre .0) (c .before .before .before .before .scalars-in .ensures), data-room (a .pre .0) (a .pre .1) (c .before .before .before .before .scalars-in .ensures))
 
 note-requires : tie.Need-note-requires
 note-requires c κs =
@@ -64,7 +64,7 @@ save-scalars-requires : tie.Need-save-scalars-requires
 save-scalars-requires c κs = search needs
 
 done : tie.Need-returns
-done c = data-done (ring-sized (c .before .before .before .before .before .before .before .before .before .before .before .before .before .before .before .before .ring-size .ensures)) (c .before .before .before .before .before .before .before .before .before .before .before .before .before .before .before .before .before .before .before .before .before .before .before .pre .0) (c .before .before .before .before .before .before .before .before .before .before .before .before .before .before .before .before .before .scalars-in .ensures) (c .before .before .before .before .before .before .before .before .before .before .before .before .hear .ensures) (c .before .before .before .before .before .before .note .ensures) (c .before .before .save-scalars .ensures)
+done c = data-done (ring-sized (c .before .before .before .before .before .before .before .before .before .before .before .before .before .before .before .before .size .ensures)) (c .before .before .before .before .before .before .before .before .before .before .before .before .before .before .before .before .before .before .before .before .before .before .before .pre .0) (c .before .before .before .before .before .before .before .before .before .before .before .before .before .before .before .before .before .scalars-in .ensures) (c .before .before .before .before .before .before .before .before .before .before .before .before .hear .ensures) (c .before .before .before .before .before .before .note .ensures) (c .before .before .save-scalars .ensures)
 
 same-length : tie.Need-same-length
 same-length c = done c .size
@@ -83,7 +83,7 @@ data-spec =
     tie.close
     (tie.spec
     scalars-in-requires
-    ring-size-requires
+    size-requires
     sub-hear
     part-hear-start
     part-hear-end

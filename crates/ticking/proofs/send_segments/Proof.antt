@@ -24,8 +24,8 @@ part-copy-words-end c = search needs
 copy-words-requires : tie.Need-copy-words-requires
 copy-words-requires c κs = search needs
 
-ring-size-requires : tie.Need-ring-size-requires
-ring-size-requires c κs = search needs
+size-requires : tie.Need-size-requires
+size-requires c κs = search needs
 
 sub-send : tie.Need-sub-send
 sub-send c = search needs
@@ -52,7 +52,7 @@ send-requires : tie.Need-send-requires
 unfolding sectionsOf
 send-requires c κs =
     let a = c .before .before .before .before .before .before .before .before .before .before .before .before .before .before .before .before .before in
-    send-room-at (ring-sized (c .before .before .before .before .ring-size .ensures)) (a .args .w) (a .args .e) (a .args .t .now) (a .args .outgoing .now) (a .args .out .now) _ (c .before .before .before .before .before .before .before .before .before .before .before .before .sends-in .result) (a .pre) (c .before .before .before .before .before .before .before .before .before .before .before .before .sends-in .ensures) (c .before .before .before .before .before .before .copy-words .ensures)
+    send-room-at (ring-sized (c .before .before .before .before .size .ensures)) (a .args .w) (a .args .e) (a .args .t .now) (a .args .outgoing .now) (a .args .out .now) _ (c .before .before .before .before .before .before .before .before .before .before .before .before .sends-in .result) (a .pre) (c .before .before .before .before .before .before .before .before .before .before .before .before .sends-in .ensures) (c .before .before .before .before .before .before .copy-words .ensures)
 
 sub-copy-words-2 : tie.Need-sub-copy-words-2
 sub-copy-words-2 c = search needs
@@ -94,7 +94,7 @@ returns : tie.Need-returns
 unfolding sectionsOf
 returns c =
     let a = c .before .before .before .before .before .before .before .before .before .before .before .before .before .before .before .before .before .before .before .before .before .before .before .before .before .before .before .before .before .before .before .before in
-    segments-sent (ring-sized (c .before .before .before .before .before .before .before .before .before .before .before .before .before .before .before .before .before .before .before .ring-size .ensures)) (a .args .w) (a .args .e) (a .args .t .now) (a .args .outgoing .now) (a .args .out .now) _ _ _ _ _ _ (c .before .before .before .before .before .before .before .before .before .before .before .before .before .before .before .before .before .before .before .before .before .before .before .before .before .before .before .sends-in .result) _ (a .pre) (c .before .before .before .before .before .before .before .before .before .before .before .before .before .before .before .before .before .before .before .before .before .before .before .before .before .before .before .sends-in .ensures) (c .before .before .before .before .before .before .before .before .before .before .before .before .before .before .before .before .before .before .before .before .before .copy-words .ensures) (c .before .before .before .before .before .before .before .before .before .before .before .before .before .before .send .ensures) (c .before .before .before .before .before .before .copy-words2 .ensures) (c .before .before .save-sends .ensures)
+    segments-sent (ring-sized (c .before .before .before .before .before .before .before .before .before .before .before .before .before .before .before .before .before .before .before .size .ensures)) (a .args .w) (a .args .e) (a .args .t .now) (a .args .outgoing .now) (a .args .out .now) _ _ _ _ _ _ (c .before .before .before .before .before .before .before .before .before .before .before .before .before .before .before .before .before .before .before .before .before .before .before .before .before .before .before .sends-in .result) _ (a .pre) (c .before .before .before .before .before .before .before .before .before .before .before .before .before .before .before .before .before .before .before .before .before .before .before .before .before .before .before .sends-in .ensures) (c .before .before .before .before .before .before .before .before .before .before .before .before .before .before .before .before .before .before .before .before .before .copy-words .ensures) (c .before .before .before .before .before .before .before .before .before .before .before .before .before .before .send .ensures) (c .before .before .before .before .before .before .copy-words2 .ensures) (c .before .before .save-sends .ensures)
 
 pub send-segments-spec : {M : Type 1} → statement M
 send-segments-spec =
@@ -106,7 +106,7 @@ send-segments-spec =
     part-copy-words-start
     part-copy-words-end
     copy-words-requires
-    ring-size-requires
+    size-requires
     sub-send
     part-send-start
     part-send-end

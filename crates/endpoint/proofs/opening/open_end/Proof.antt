@@ -5,8 +5,8 @@ use borrow.Author.Needs.{needs}
 use Rattle.endpoint.proofs.opening.open_end.Statement.{statement}
 use Rattle.endpoint.proofs.opening.open_end.Tie as tie
 
-ring-size-requires : tie.Need-ring-size-requires
-ring-size-requires c κs = search needs
+size-requires : tie.Need-size-requires
+size-requires c κs = search needs
 
 sub-start : tie.Need-sub-start
 sub-start c = search needs
@@ -38,13 +38,13 @@ same-length-2 c = search needs
 returns : tie.Need-returns
 returns c =
     let a = c .before .before .before .before .before .before .before .before .before .before .before .before .before in
-    opened (ring-sized (c .before .before .before .before .before .before .before .before .before .before .ring-size .ensures)) (a .args .t .now) (a .args .marks .now) _ (a .args .epoch) (a .args .interval) (a .pre .1) (c .before .before .before .before .before .before .before .before .start .ensures) (c .before .before .before .before .before .fresh-line .ensures) (c .before .before .before .before .fresh-row .ensures) (c .before .before .save-all .ensures)
+    opened (ring-sized (c .before .before .before .before .before .before .before .before .before .before .size .ensures)) (a .args .t .now) (a .args .marks .now) _ (a .args .epoch) (a .args .interval) (a .pre .1) (c .before .before .before .before .before .before .before .before .start .ensures) (c .before .before .before .before .before .fresh-line .ensures) (c .before .before .before .before .fresh-row .ensures) (c .before .before .save-all .ensures)
 
 pub open-end-spec : {M : Type 1} → statement M
 open-end-spec =
     tie.close
     (tie.spec
-    ring-size-requires
+    size-requires
     sub-start
     part-start-start
     part-start-end

@@ -9,8 +9,8 @@ use Rattle.endpoint.proofs.stream.give.Tie as tie
 sends-in-requires : tie.Need-sends-in-requires
 sends-in-requires c κs = search needs
 
-ring-size-requires : tie.Need-ring-size-requires
-ring-size-requires c κs = search needs
+size-requires : tie.Need-size-requires
+size-requires c κs = search needs
 
 sub-give : tie.Need-sub-give
 sub-give c = search needs
@@ -48,14 +48,14 @@ same-length-2 c = search needs
 returns : tie.Need-returns
 returns c =
     let a = c .before .before .before .before .before .before .before .before .before .before .before .before .before .before .before .before .before in
-    gave (a .args .t .now) _ (c .before .before .before .before .before .before .before .before .before .before .before .before .sends-in .result) (a .pre .0 .0) (c .before .before .before .before .before .before .before .before .before .before .before .before .sends-in .ensures) (ring-sized (c .before .before .before .before .before .before .before .before .before .ring-size .ensures)) (a .args .outgoing .now) (a .args .bytes .now) _ _ (a .pre .1) (c .before .before .before .before .before .before .before .give .ensures) (c .before .before .save-sends .ensures)
+    gave (a .args .t .now) _ (c .before .before .before .before .before .before .before .before .before .before .before .before .sends-in .result) (a .pre .0 .0) (c .before .before .before .before .before .before .before .before .before .before .before .before .sends-in .ensures) (ring-sized (c .before .before .before .before .before .before .before .before .before .size .ensures)) (a .args .outgoing .now) (a .args .bytes .now) _ _ (a .pre .1) (c .before .before .before .before .before .before .before .give .ensures) (c .before .before .save-sends .ensures)
 
 pub give-spec : {M : Type 1} → statement M
 give-spec =
     tie.close
     (tie.spec
     sends-in-requires
-    ring-size-requires
+    size-requires
     sub-give
     part-give-start
     part-give-end

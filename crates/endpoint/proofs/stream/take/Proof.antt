@@ -9,8 +9,8 @@ use Rattle.endpoint.proofs.stream.take.Tie as tie
 scalars-in-requires : tie.Need-scalars-in-requires
 scalars-in-requires c κs = search needs
 
-ring-size-requires : tie.Need-ring-size-requires
-ring-size-requires c κs = search needs
+size-requires : tie.Need-size-requires
+size-requires c κs = search needs
 
 sub-take : tie.Need-sub-take
 sub-take c = search needs
@@ -45,14 +45,14 @@ same-length-2 c = search needs
 returns : tie.Need-returns
 returns c =
     let a = c .before .before .before .before .before .before .before .before .before .before .before .before .before .before .before in
-    took (ring-sized (c .before .before .before .before .before .before .before .before .before .ring-size .ensures)) (a .args .t .now) _ (a .args .incoming .now) (a .args .out .now) _ (c .before .before .before .before .before .before .before .before .before .before .scalars-in .result) _ (a .pre .0 .0) (c .before .before .before .before .before .before .before .before .before .before .scalars-in .ensures) (c .before .before .before .before .before .before .take .ensures) (c .before .before .save-scalars .ensures)
+    took (ring-sized (c .before .before .before .before .before .before .before .before .before .size .ensures)) (a .args .t .now) _ (a .args .incoming .now) (a .args .out .now) _ (c .before .before .before .before .before .before .before .before .before .before .scalars-in .result) _ (a .pre .0 .0) (c .before .before .before .before .before .before .before .before .before .before .scalars-in .ensures) (c .before .before .before .before .before .before .take .ensures) (c .before .before .save-scalars .ensures)
 
 pub take-spec : {M : Type 1} → statement M
 take-spec =
     tie.close
     (tie.spec
     scalars-in-requires
-    ring-size-requires
+    size-requires
     sub-take
     part-take-start
     part-take-end
