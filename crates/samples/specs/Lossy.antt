@@ -58,7 +58,7 @@ unfolding count sends anyOf lossy sentIn siteAt at roundsOf play allChoices choi
 near-between f = refl
 
 near-last : (f : Message → Bool) → count (sends lossy the-near f) 4 4 ≡ count (once f) 4 4
-unfolding count sends anyOf lossy sentIn siteAt at roundsOf play allChoices choicesOf nearArrivals farArrivals nearCalls farCalls when _orElse_ branch encode run datagram.kindOf datagram.flagsOf datagram.positionOf datagram.creditOf datagram.payloadOf datagram.be datagram.headOf datagram.headerOf reading.num reading.fieldsOf reading.dataRow reading.plainRow reading.rowsOf reading.formOf reading.messageOf reading.decodeAs reading.decode window.unseen window.fresh window.seenOf window.verdictOf window.slide window.acceptOf receiving.fresh receiving.first receiving.lay receiving.fillCells receiving.fillOf receiving.hearOf receiving.lead receiving.lowOf receiving.up receiving.reach receiving.highOf receiving.heads receiving.gotOf receiving.takeOf receiving.endAt receiving.endedOf receiving.ackPosition receiving.ackCredit receiving.beyondOf receiving.misplacedOf receiving.refusalBy receiving.refusalOf sending.fresh sending.startOf sending.partOf sending.dataOf giving.roomOf giving.giveOf giving.finishOf acking.leftOf acking.ackedOf acking.ackOf steps.dueOf steps.againOf steps.resendOf steps.cutTo steps.cutOne steps.cutOf steps.agoOf steps.probesOf steps.probeOf steps.cutsOf steps.stepsOf steps.sendOf end.openOf end.giveOf end.givenOf end.finishOf end.gotOf end.takeOf end.reachedOf end.placeOf end.refusalOf end.acceptedOf end.answerTo end.acceptIf end.afterHearing end.hearAnswer end.hearOf end.clockOf end.allowanceOf end.ackOf end.stepOf end.sentOf end.tickOf world.opened world.noted world.hear world.bytesOf world.handOver world.strange world.arrive world.call world.leaving world.tick world.act world.step
+unfolding count sends anyOf lossy sentIn siteAt at roundsOf play allChoices choicesOf nearArrivals farArrivals nearCalls farCalls when _orElse_ branch encode run datagram.kindOf datagram.flagsOf datagram.positionOf datagram.creditOf datagram.payloadOf datagram.be datagram.headOf datagram.headerOf reading.num reading.fieldsOf reading.dataRow reading.plainRow reading.rowsOf reading.formOf reading.messageOf reading.decodeAs reading.decode window.unseen window.fresh window.seenOf window.verdictOf window.slide window.acceptOf receiving.fresh receiving.first receiving.lay receiving.fillCells receiving.fillOf receiving.hearOf receiving.lead receiving.lowOf receiving.up receiving.reach receiving.highOf receiving.heads receiving.gotOf receiving.takeOf receiving.endAt receiving.endedOf receiving.ackPosition receiving.ackCredit receiving.beyondOf receiving.misplacedOf receiving.refusalBy receiving.refusalOf sending.fresh sending.startOf sending.partOf sending.dataOf giving.roomOf giving.giveOf giving.finishOf acking.leftOf acking.ackedOf acking.ackOf steps.dueOf steps.againOf steps.resendOf steps.cutTo steps.cutOne steps.cutOf steps.agoOf steps.probesOf steps.probeOf steps.cutsOf steps.stepsOf steps.sendOf end.openOf end.giveOf end.givenOf end.finishOf end.gotOf end.takeOf end.reachedOf end.placeOf end.refusalOf end.acceptedOf end.answerTo end.acceptIf end.afterHearing end.hearAnswer end.hearOf end.clockOf end.allowanceOf end.ackOf end.stepOf end.sentOf end.tickOf world.opened world.noted world.hear world.bytesOf world.handOver world.strange world.arrive world.call world.leaving world.tick world.act world.step message once
 near-last f = refl
 
 near-all : (f : Message → Bool) → count (sends lossy the-near f) 0 8 ≡ count (once f) 0 8
