@@ -12,7 +12,7 @@ use Rattle.window.specs.Window.{Window, verdictOf, acceptOf}
 use Rattle.window.specs.Window as window
 use Rattle.receiving.specs.Receiving.{Receiving, endedOf, ackPosition, ackCredit}
 use Rattle.receiving.specs.Receiving as receiving
-use Rattle.sending.specs.declared.Tick.{Tick}
+use Rattle.segments.specs.declared.Tick.{Tick}
 use Rattle.sending.specs.Sending.{datagramsMost, Sending}
 use Rattle.sending.specs.Sending as sending
 use Rattle.sending.specs.Giving as giving

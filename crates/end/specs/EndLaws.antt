@@ -16,13 +16,13 @@ use Rattle.window.specs.Window.{verdictOf, acceptOf}
 use Rattle.window.specs.Window as window
 use Rattle.receiving.specs.Receiving.{Receiving, endedOf, ackPosition, ackCredit}
 use Rattle.receiving.specs.Receiving as receiving
-use Rattle.sending.specs.declared.Tick.{Tick}
+use Rattle.segments.specs.declared.Tick.{Tick}
 use Rattle.sending.specs.Sending.{Sending}
 use Rattle.sending.specs.Sending as sending
 use Rattle.sending.specs.Giving as giving
 use Rattle.sending.specs.Acking as acking
 use Rattle.sending.specs.Steps.{sendOf}
-use Rattle.sending.specs.StepLaws.{and-left, and-right}
+use Rattle.segments.specs.StepLaws.{and-left, and-right}
 use Rattle.sending.specs.CallLaws.{ack-sent, honest-ack}
 use Rattle.sending.specs.TickLaws.{send-few}
 use Rattle.end.specs.End.{End, openOf, giveOf, givenOf, finishOf, gotOf, takeOf, reachedOf, placeOf, refusalOf, acceptedOf, answerTo, acceptIf, afterHearing, hearAnswer, hearOf, clockOf, allowanceOf, ackOf, stepOf, sentOf, tickOf, outputOf}

@@ -12,7 +12,7 @@ use Rattle.receiving.specs.Receiving.{Receiving, receivingOf}
 use Rattle.receiving.specs.Receiving as receiving
 use Rattle.receiving.specs.ReadLaws.{ended-read}
 use Rattle.receiving.specs.Calls.{endedBy}
-use Rattle.sending.specs.declared.Line.{Line}
+use Rattle.segments.specs.declared.Line.{Line}
 use Rattle.sending.specs.Sending.{Sending}
 use Rattle.sending.specs.Giving as giving
 use Rattle.sending.specs.Buffers.{sendingOf}

@@ -16,8 +16,8 @@ use Rattle.window.specs.MarksLaws.{window-fresh}
 use Rattle.receiving.specs.declared.Scalars.{Scalars}
 use Rattle.receiving.specs.Receiving.{receivingOf}
 use Rattle.receiving.specs.Calls as receiving
-use Rattle.sending.specs.declared.Line.{Line}
-use Rattle.sending.specs.declared.Row.{Row}
+use Rattle.segments.specs.declared.Line.{Line}
+use Rattle.segments.specs.declared.Row.{Row}
 use Rattle.sending.specs.Buffers.{sendingOf, freshLine, freshRow}
 use Rattle.sending.specs.BufferLaws.{fresh-end}
 use Rattle.table.specs.declared.Common.{Common}

@@ -12,8 +12,8 @@ use Rattle.wire.specs.Datagram.{ceiling}
 use Rattle.receiving.specs.declared.Scalars.{Scalars}
 use Rattle.receiving.specs.Receiving.{Ranged}
 use Rattle.receiving.specs.Calls as receiving
-use Rattle.sending.specs.declared.Line.{Line}
-use Rattle.sending.specs.declared.Row.{Row}
+use Rattle.segments.specs.declared.Line.{Line}
+use Rattle.segments.specs.declared.Row.{Row}
 use Rattle.sending.specs.Giving.{roomOf}
 use Rattle.sending.specs.GiveLaws.{room-small}
 use Rattle.sending.specs.Outcome as sending

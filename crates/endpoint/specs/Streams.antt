@@ -7,7 +7,7 @@ use Rattle.ring.specs.Ring.{capacity}
 use Rattle.receiving.specs.declared.Scalars.{Scalars}
 use Rattle.receiving.specs.Calls as receiving
 use Rattle.sending.specs.Outcome as sending
-use Rattle.sending.specs.declared.Line.{Line}
+use Rattle.segments.specs.declared.Line.{Line}
 use Rattle.table.specs.declared.Sends.{Sends}
 use Rattle.table.specs.Layout.{Sections, sectionsOf, sendsWords, sendsOf, scalarsWords, scalarsOf, ringOf}
 use Rattle.table.specs.LayoutLaws.{withSends, withReceives}

@@ -17,13 +17,13 @@ use Rattle.wire.specs.Datagram.{ceiling, Message, ACK, wire}
 use Rattle.receiving.specs.Receiving.{receivingOf, ackPosition, ackCredit}
 use Rattle.receiving.specs.ReadLaws.{position-read, credit-read}
 use Rattle.receiving.specs.Calls.{positionBy, creditBy}
-use Rattle.sending.specs.declared.Tick.{Tick}
+use Rattle.segments.specs.declared.Tick.{Tick}
 use Rattle.sending.specs.declared.Sent.{Sent}
 use Rattle.sending.specs.Sending.{datagramsMost, Sending}
 use Rattle.sending.specs.Steps.{Sends, sendOf}
 use Rattle.sending.specs.Buffers.{sendingOf}
 use Rattle.sending.specs.BufferLaws.{moved, SentEnd, sent-end}
-use Rattle.sending.specs.WireLaws.{wire-append, over-rest}
+use Rattle.segments.specs.WireLaws.{wire-append, over-rest}
 use Rattle.table.specs.declared.Common.{Common}
 use Rattle.table.specs.declared.Sends as declared
 use Rattle.end.specs.End.{End, clockOf, allowanceOf, ackOf, stepOf, sentOf, tickOf, outputOf}

@@ -10,7 +10,7 @@ use Rattle.wire.specs.Datagram.{payloadMost}
 use Rattle.receiving.specs.Receiving.{lowOf, ackPosition}
 use Rattle.receiving.specs.TruthLaws.{says-length, says-whole}
 use Rattle.receiving.specs.NetworkLaws.{past-end}
-use Rattle.sending.specs.declared.Tick.{Tick}
+use Rattle.segments.specs.declared.Tick.{Tick}
 use Rattle.sending.specs.Sending.{Segment, Sending, lineOf, startOf}
 use Rattle.sending.specs.Sending as sending
 use Rattle.sending.specs.Steps.{sendOf}

@@ -10,12 +10,12 @@ use lib.ListN.{length}
 use borrow.Author.Tests.{eqb-true, ltb-true, eq-eqb}
 use Rattle.laws.specs.Choice.{if-case}
 use Rattle.wire.specs.Datagram.{payloadMost}
-use Rattle.sending.specs.declared.Tick.{Tick}
-use Rattle.sending.specs.declared.Line.{Line}
+use Rattle.segments.specs.declared.Tick.{Tick}
+use Rattle.segments.specs.declared.Line.{Line}
 use Rattle.sending.specs.Sending.{segmentsMost, Segment, Sending, lineOf, partOf}
 use Rattle.sending.specs.Acking as acking
 use Rattle.sending.specs.Steps.{Resent, dueOf, againOf, resendOf, Cut, bytesTo, cutTo, cutOne, cutOf, cutsOf, stepsOf, sendOf}
-use Rattle.sending.specs.StepLaws.{and-left, and-right}
+use Rattle.segments.specs.StepLaws.{and-left, and-right}
 use Rattle.sending.specs.CallLaws.{In, here, there, given-is, finished-is}
 use Rattle.sending.specs.OrderLaws.{probe-next, probe-kept}
 use Rattle.fairness.specs.SideLaws.{Moves, stays, acks, given, closed}

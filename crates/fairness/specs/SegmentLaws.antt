@@ -13,7 +13,7 @@ use Rattle.sending.specs.Sending.{Segment, Sending}
 use Rattle.sending.specs.Acking as acking
 use Rattle.sending.specs.Buffers.{Orderly}
 use Rattle.sending.specs.OrderLaws.{orderly-ack}
-use Rattle.sending.specs.StepLaws.{and-left, and-right}
+use Rattle.segments.specs.StepLaws.{and-left, and-right}
 use Rattle.sending.specs.CallLaws.{acked-ack, acked-reached}
 use Rattle.sending.specs.TickLaws.{last-has, has-in, Covers, covers}
 use Rattle.end.specs.End.{End}

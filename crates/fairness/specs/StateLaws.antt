@@ -12,10 +12,10 @@ use borrow.Author.Tests.{ltb-true, lt-ltb}
 use Rattle.laws.specs.Choice.{if-case}
 use Rattle.wire.specs.Datagram.{ceiling, Message}
 use Rattle.receiving.specs.Receiving.{ackPosition, ackCredit}
-use Rattle.sending.specs.declared.Tick.{Tick}
+use Rattle.segments.specs.declared.Tick.{Tick}
 use Rattle.sending.specs.Sending.{Sending, datagramsMost}
 use Rattle.sending.specs.Steps.{sendOf}
-use Rattle.sending.specs.StepLaws.{and-right}
+use Rattle.segments.specs.StepLaws.{and-right}
 use Rattle.sending.specs.CallLaws.{tick-keeps}
 use Rattle.sending.specs.TickLaws.{send-few, next-send}
 use Rattle.sending.specs.Buffers.{Orderly}

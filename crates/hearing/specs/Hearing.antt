@@ -14,7 +14,7 @@ use Rattle.window.specs.Window.{verdictOf}
 use Rattle.window.specs.Marks.{windowOf, Accepts}
 use Rattle.receiving.specs.declared.Scalars.{Scalars}
 use Rattle.receiving.specs.Calls as receiving
-use Rattle.sending.specs.declared.Row.{Row}
+use Rattle.segments.specs.declared.Row.{Row}
 use Rattle.sending.specs.declared.Credit.{Credit}
 use Rattle.sending.specs.Acking.{ackRefusal}
 use Rattle.sending.specs.Outcome as sending

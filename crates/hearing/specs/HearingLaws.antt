@@ -25,7 +25,7 @@ use Rattle.receiving.specs.declared.Scalars.{Scalars}
 use Rattle.receiving.specs.Receiving.{Ranged}
 use Rattle.receiving.specs.RefusalLaws.{judge-room}
 use Rattle.receiving.specs.Calls as receiving
-use Rattle.sending.specs.declared.Row.{Row}
+use Rattle.segments.specs.declared.Row.{Row}
 use Rattle.sending.specs.declared.Credit.{Credit}
 use Rattle.sending.specs.Sending.{segmentsMost}
 use Rattle.sending.specs.Acking.{ackRefusal}

@@ -22,7 +22,7 @@ use Rattle.receiving.specs.Truth.{ReceivingOK}
 use Rattle.receiving.specs.TruthLaws.{says-length, says-whole}
 use Rattle.receiving.specs.AckLaws.{taken-low, position-low, ack-says, position-hear, position-take, limit-hear, limit-take}
 use Rattle.receiving.specs.ReceivingLaws.{receiving-start, receiving-give, receiving-close, receiving-hear, receiving-take, ended-closed, ended-all, ack-true, grant-true, never-refused}
-use Rattle.sending.specs.declared.Tick.{Tick}
+use Rattle.segments.specs.declared.Tick.{Tick}
 use Rattle.sending.specs.Sending as sending
 use Rattle.sending.specs.Giving.{takenOf, giveOf, finishOf}
 use Rattle.sending.specs.Acking.{ackOf}

@@ -4,12 +4,13 @@ use mathlib.Core.List.{List, [], _∷_, _++_}
 use Prim.Native.Nat.{ℕ, suc, _+_, _-_, _%_, _≤_, _<_}
 use native.Mathlib.Omega.{arith}
 use lib.ListN.{getD}
-use Rattle.sending.specs.declared.Row.{Row}
+use Rattle.segments.specs.declared.Row.{Row}
 use Rattle.sending.specs.Sending.{segmentsMost}
 use Rattle.sending.specs.Acking.{leftOf, ackedOf}
-use Rattle.sending.specs.Buffers.{segs, Chain}
+use Rattle.sending.specs.Buffers.{Chain}
+use Rattle.segments.specs.Segments.{segs}
 use Rattle.sending.specs.Outcome.{Acked}
-use Rattle.sending.specs.SegmentLaws.{seg, segs-oldest, segs-wrap}
+use Rattle.segments.specs.SegmentLaws.{seg, segs-oldest, segs-wrap}
 use Rattle.sending.specs.AckLaws.{left-oldest, acked-oldest, chain-oldest, Beyond, beyond}
 
 pub record Acking (e : List ℕ) (r : Row) (p acked o k : ℕ) : Type 0 where

@@ -1,6 +1,3 @@
-pub mod Data
 pub mod Tests
-pub mod Resending
-pub mod Cutting
 pub mod Steps
 pub mod Acking

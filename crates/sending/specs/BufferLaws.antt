@@ -11,21 +11,22 @@ use Rattle.laws.specs.Over.{over}
 use Rattle.ring.specs.Ring.{capacity, span}
 use Rattle.ring.specs.SpanLaws.{put-span}
 use Rattle.wire.specs.Datagram.{wire}
-use Rattle.sending.specs.declared.Tick.{Tick}
-use Rattle.sending.specs.declared.Stamp.{Stamp}
-use Rattle.sending.specs.declared.Line.{Line}
-use Rattle.sending.specs.declared.Row.{Row}
+use Rattle.segments.specs.declared.Tick.{Tick}
+use Rattle.segments.specs.declared.Stamp.{Stamp}
+use Rattle.segments.specs.declared.Line.{Line}
+use Rattle.segments.specs.declared.Row.{Row}
 use Rattle.sending.specs.declared.Sent.{Sent}
 use Rattle.sending.specs.declared.Credit.{Credit}
 use Rattle.sending.specs.Sending.{Segment, Probed, fresh, startOf, partOf, sizeOf, dataOf}
 use Rattle.sending.specs.Giving.{takenOf, giveOf, finishOf}
 use Rattle.sending.specs.Acking.{ackOf}
 use Rattle.sending.specs.Steps.{againOf, resendOf, after, Cut, cutTo, cutOne, cutOf, cutsOf, probeOf, stepsOf, sendOf}
-use Rattle.sending.specs.Buffers.{segs, wordOf, sendingOf, freshLine, freshRow, Chain, Orderly, Sound, Plausible}
+use Rattle.sending.specs.Buffers.{wordOf, sendingOf, freshLine, freshRow, Chain, Orderly, Sound, Plausible}
+use Rattle.segments.specs.Segments.{segs}
 use Rattle.sending.specs.Buffers.Chain.{none, one}
 use Rattle.sending.specs.Outcome.{Sends, Acked, Granted, Gave, Tells}
 use Rattle.sending.specs.GiveLaws.{room-closed, room-small}
-use Rattle.sending.specs.SegmentLaws.{segs-length}
+use Rattle.segments.specs.SegmentLaws.{segs-length}
 use Rattle.sending.specs.OrderLaws.{orderly-fresh, chain-up, acked-next, next-given, orderly-give, orderly-finish, dropped, orderly-ack, orderly-send, Kept, kept-cut, kept-resend, begun}
 
 -- parts of a stretch of the ring

@@ -1,18 +1,14 @@
 -- A sending side, read out of the lent buffers: bytes of the stream at position % 65,536, segment number s at s % 64.
 use mathlib.Core.Path.{_≡_}
 use mathlib.Core.List.{List, [], _∷_}
-use Prim.Native.Nat.{ℕ, zero, suc, _+_, _-_, _%_, _≤_, _<_, min}
-use lib.ListN.{length, getD}
+use Prim.Native.Nat.{ℕ, zero, suc, _+_, _-_, _≤_, _<_, min}
+use lib.ListN.{length}
 use Rattle.ring.specs.Ring.{capacity, span}
 use Rattle.wire.specs.Datagram.{payloadMost, ceiling}
-use Rattle.sending.specs.declared.Line.{Line}
-use Rattle.sending.specs.declared.Row.{Row}
+use Rattle.segments.specs.declared.Line.{Line}
+use Rattle.segments.specs.declared.Row.{Row}
+use Rattle.segments.specs.Segments.{segs}
 use Rattle.sending.specs.Sending.{segmentsMost, Segment, Probed, never, tick, Sending, startOf}
-
--- the n segments from number k on
-unfoldable pub segs : List ℕ → List ℕ → ℕ → ℕ → List Segment
-segs ends times k zero = []
-segs ends times k (suc n) = record { to = getD ends ((k + n) % segmentsMost) 0; at = getD times ((k + n) % segmentsMost) 0 } ∷ segs ends times k n
 
 -- a word: 0, or one more than the tick
 unfoldable pub wordOf : ℕ → Probed

@@ -8,7 +8,7 @@ use lib.Dec.{ltb}
 use borrow.Author.Tests.{lt-ltb, le-ltb}
 use Rattle.laws.specs.Choice.{if, if-case, ltb-case}
 use Rattle.laws.specs.Rows.{when}
-use Rattle.sending.specs.declared.Tick.{Tick}
+use Rattle.segments.specs.declared.Tick.{Tick}
 use Rattle.sending.specs.Sending.{Segment, never, Sending, lineOf, startOf}
 use Rattle.sending.specs.Giving.{takenOf, giveOf, finishOf}
 use Rattle.sending.specs.Acking.{ackRefusal, leftOf, ackedOf, ackOf}

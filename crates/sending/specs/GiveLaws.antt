@@ -7,7 +7,7 @@ use borrow.Author.Tests.{eq-eqb, ne-eqb}
 use Rattle.laws.specs.Choice.{if-case}
 use Rattle.ring.specs.Ring.{capacity}
 use Rattle.wire.specs.Datagram.{ceiling}
-use Rattle.sending.specs.declared.Line.{Line}
+use Rattle.segments.specs.declared.Line.{Line}
 use Rattle.sending.specs.Giving.{roomOf}
 
 pub room-closed : (l : Line) (acked : ℕ) → l .closed ≡ 1 → 0 ≡ roomOf l acked

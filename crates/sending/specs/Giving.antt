@@ -6,7 +6,7 @@ use lib.ListN.{length, take}
 use Rattle.laws.specs.Choice.{if}
 use Rattle.ring.specs.Ring.{capacity}
 use Rattle.wire.specs.Datagram.{ceiling}
-use Rattle.sending.specs.declared.Line.{Line}
+use Rattle.segments.specs.declared.Line.{Line}
 use Rattle.sending.specs.Sending.{Sending, lineOf}
 
 -- room for give: 65,536 less the bytes given and not yet acknowledged, and at most 2^62 bytes in all; none after finish

@@ -5,9 +5,6 @@ pub mod Steps
 pub mod Buffers
 pub mod Outcome
 pub mod Samples
-pub mod WireLaws
-pub mod SegmentLaws
-pub mod StepLaws
 pub mod GiveLaws
 pub mod AckLaws
 pub mod OrderLaws

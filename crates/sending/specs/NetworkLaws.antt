@@ -10,15 +10,15 @@ use borrow.Author.Tests.{ltb-true}
 use Rattle.laws.specs.Choice.{if-case, ltb-case}
 use Rattle.ring.specs.Ring.{capacity}
 use Rattle.wire.specs.Datagram.{Message, DATA, PROBE}
-use Rattle.sending.specs.declared.Tick.{Tick}
-use Rattle.sending.specs.declared.Line.{Line}
+use Rattle.segments.specs.declared.Tick.{Tick}
+use Rattle.segments.specs.declared.Line.{Line}
 use Rattle.sending.specs.Sending.{segmentsMost, Segment, Probed, Sending, fresh, lineOf, startOf, partOf, sizeOf, dataOf}
 use Rattle.sending.specs.Steps.{Resent, dueOf, againOf, resendOf, Cut, cutTo, cutOne, cutOf, cutsOf, probesOf, Work, probeOf, stepsOf, sendOf}
 use Rattle.sending.specs.Buffers.{Chain, Orderly}
 use Rattle.sending.specs.Buffers.Chain.{none, one}
 use Rattle.sending.specs.True.{Each}
 use Rattle.sending.specs.True.Each.{each-none, each-more}
-use Rattle.sending.specs.StepLaws.{and-right}
+use Rattle.segments.specs.StepLaws.{and-right}
 use Rattle.sending.specs.OrderLaws.{Kept, kept-cut, kept-resend, cut-ends, begun, probe-next}
 use Rattle.sending.specs.TrueLaws.{each-append, each-map}
 use Rattle.sending.specs.TickLaws.{next-send}

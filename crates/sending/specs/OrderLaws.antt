@@ -10,8 +10,8 @@ use lib.ListN.{length, length-append, length-take, length-drop}
 use borrow.Author.Tests.{eqb-true, ltb-true, lt-ltb, le-ltb}
 use Rattle.laws.specs.Choice.{if-case}
 use Rattle.wire.specs.Datagram.{payloadMost}
-use Rattle.sending.specs.declared.Tick.{Tick}
-use Rattle.sending.specs.declared.Line.{Line}
+use Rattle.segments.specs.declared.Tick.{Tick}
+use Rattle.segments.specs.declared.Line.{Line}
 use Rattle.sending.specs.Sending.{segmentsMost, Segment, Probed, Sending, fresh, lineOf, startOf, partOf}
 use Rattle.sending.specs.Giving.{takenOf, giveOf, finishOf}
 use Rattle.sending.specs.Acking.{leftOf, ackedOf, ackOf}
@@ -19,7 +19,7 @@ use Rattle.sending.specs.Steps.{Resent, dueOf, againOf, resendOf, Cut, b
 use Rattle.sending.specs.Buffers.{Chain, Orderly}
 use Rattle.sending.specs.Buffers.Chain.{none, one}
 use Rattle.sending.specs.GiveLaws.{room-closed, room-small, room-whole}
-use Rattle.sending.specs.StepLaws.{and-left, and-right}
+use Rattle.segments.specs.StepLaws.{and-left, and-right}
 
 pub orderly-fresh : Orderly fresh
 unfolding fresh startOf

@@ -7,8 +7,8 @@ use native.Mathlib.Omega.{arith}
 use lib.Dec.{ltb}
 use lib.ListN.{length}
 use Rattle.laws.specs.Choice.{if-case}
-use Rattle.sending.specs.declared.Tick.{Tick}
-use Rattle.sending.specs.declared.Line.{Line}
+use Rattle.segments.specs.declared.Tick.{Tick}
+use Rattle.segments.specs.declared.Line.{Line}
 use Rattle.sending.specs.Sending.{segmentsMost, Segment, Probed, tick, Sending, fresh, lineOf, partOf}
 use Rattle.sending.specs.Giving.{giveOf, finishOf}
 use Rattle.sending.specs.Acking.{leftOf, ackOf}

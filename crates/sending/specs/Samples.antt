@@ -4,7 +4,7 @@ use mathlib.Core.List.{List, [], _∷_, _++_}
 use Prim.Native.Nat.{ℕ, _+_}
 use lib.ListN.{length, replicate}
 use Rattle.wire.specs.Datagram.{Message, DATA, ACK, PROBE, kindOf, flagsOf, positionOf, creditOf, payloadOf, be, headOf, headerOf, encode, wire}
-use Rattle.sending.specs.declared.Tick.{Tick}
+use Rattle.segments.specs.declared.Tick.{Tick}
 use Rattle.sending.specs.Sending.{never, Sending, fresh, startOf, partOf, dataOf}
 use Rattle.sending.specs.Giving.{roomOf, giveOf, finishOf}
 use Rattle.sending.specs.Acking.{leftOf, ackedOf, ackOf}

@@ -10,8 +10,8 @@ use lib.ListN.{length, length-append, length-take, length-drop}
 use borrow.Author.Tests.{eqb-true, ltb-true, lt-ltb, le-ltb, le-leb, lt-leb, eq-eqb}
 use Rattle.laws.specs.Choice.{if-case}
 use Rattle.wire.specs.Datagram.{payloadMost, Message, DATA, PROBE}
-use Rattle.sending.specs.declared.Tick.{Tick}
-use Rattle.sending.specs.declared.Line.{Line}
+use Rattle.segments.specs.declared.Tick.{Tick}
+use Rattle.segments.specs.declared.Line.{Line}
 use Rattle.sending.specs.Sending.{segmentsMost, Segment, Probed, never, tick, Sending, lineOf, startOf, partOf, sizeOf, endOf, dataOf}
 use Rattle.sending.specs.Steps.{Resent, dueOf, againOf, resendOf, Cut, bytesTo, cutTo, cutOne, cutOf, cutsOf, agoOf, probesOf, Work, probeOf, stepsOf, sendOf}
 use Rattle.sending.specs.Buffers.{Chain, Orderly}
@@ -19,7 +19,7 @@ use Rattle.sending.specs.Buffers.Chain.{one}
 use Rattle.sending.specs.Acking.{ackOf}
 use Rattle.sending.specs.AckLaws.{Beyond, beyond}
 use Rattle.sending.specs.CallLaws.{In, here, there}
-use Rattle.sending.specs.StepLaws.{and-left, and-right, and-none, due-allowed, cut-send, cut-nothing, cut-stays}
+use Rattle.segments.specs.StepLaws.{and-left, and-right, and-none, due-allowed, cut-send, cut-nothing, cut-stays}
 use Rattle.sending.specs.OrderLaws.{acked-next, resend-length, Ends, cut-ends, probe-next, probe-kept}
 
 -- x stands last: the oldest

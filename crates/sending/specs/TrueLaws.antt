@@ -13,8 +13,8 @@ use Rattle.laws.specs.History.{Says}
 use Rattle.laws.specs.History.Says.{none as said}
 use Rattle.laws.specs.HistoryLaws.{says-grow, says-at, says-take, says-drop, says-append, says-end}
 use Rattle.wire.specs.Datagram.{Message, DATA}
-use Rattle.sending.specs.declared.Tick.{Tick}
-use Rattle.sending.specs.declared.Line.{Line}
+use Rattle.segments.specs.declared.Tick.{Tick}
+use Rattle.segments.specs.declared.Line.{Line}
 use Rattle.sending.specs.Sending.{segmentsMost, Segment, Probed, Sending, fresh, lineOf, startOf, partOf, sizeOf, endOf, dataOf}
 use Rattle.sending.specs.Giving.{takenOf, giveOf, finishOf}
 use Rattle.sending.specs.Acking.{ackedOf, ackOf}
@@ -25,7 +25,7 @@ use Rattle.sending.specs.True.{True, Each, SendingOK}
 use Rattle.sending.specs.True.True.{data-true, probe-true}
 use Rattle.sending.specs.True.Each.{each-none, each-more}
 use Rattle.sending.specs.CallLaws.{In, here, there}
-use Rattle.sending.specs.StepLaws.{and-left, and-right}
+use Rattle.segments.specs.StepLaws.{and-left, and-right}
 use Rattle.sending.specs.OrderLaws.{orderly-fresh, chain-up, acked-next, taken-end, orderly-give, orderly-finish, dropped, orderly-ack, orderly-send, Ends, cut-ends, Kept, kept-cut, kept-resend, begun}
 
 -- EACH

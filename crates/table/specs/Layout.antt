@@ -10,8 +10,8 @@ use Rattle.window.specs.Marks.{windowOf}
 use Rattle.receiving.specs.declared.Scalars.{Scalars}
 use Rattle.receiving.specs.Receiving.{receivingOf}
 use Rattle.receiving.specs.Receiving as receiving
-use Rattle.sending.specs.declared.Line.{Line}
-use Rattle.sending.specs.declared.Row.{Row}
+use Rattle.segments.specs.declared.Line.{Line}
+use Rattle.segments.specs.declared.Row.{Row}
 use Rattle.sending.specs.Buffers.{sendingOf}
 use Rattle.sending.specs.Buffers as sending
 use Rattle.table.specs.declared.Common.{Common}

@@ -14,8 +14,8 @@ use Rattle.wire.specs.Datagram.{ceiling}
 use Rattle.receiving.specs.declared.Scalars.{Scalars}
 use Rattle.receiving.specs.Receiving.{Ranged, plausibleOf}
 use Rattle.receiving.specs.ReadLaws.{plausible-ranged, ranged-plausible}
-use Rattle.sending.specs.declared.Line.{Line}
-use Rattle.sending.specs.declared.Row.{Row}
+use Rattle.segments.specs.declared.Line.{Line}
+use Rattle.segments.specs.declared.Row.{Row}
 use Rattle.sending.specs.Sending.{segmentsMost}
 use Rattle.sending.specs.Buffers.{Plausible}
 use Rattle.sending.specs.BufferLaws.{sound-plausible}

@@ -8,8 +8,8 @@ use Rattle.laws.specs.Rows.{when, _orElse_, _and_}
 use Rattle.ring.specs.Ring.{capacity}
 use Rattle.wire.specs.Datagram.{ceiling}
 use Rattle.receiving.specs.Receiving.{plausibleOf}
-use Rattle.sending.specs.declared.Line.{Line}
-use Rattle.sending.specs.declared.Row.{Row}
+use Rattle.segments.specs.declared.Line.{Line}
+use Rattle.segments.specs.declared.Row.{Row}
 use Rattle.sending.specs.Sending.{segmentsMost}
 use Rattle.table.specs.declared.Common.{Common}
 use Rattle.table.specs.Layout.{tableWords, Sections, sectionsOf, commonOf, sendsOf, scalarsOf}

@@ -11,8 +11,8 @@ use Rattle.laws.specs.Over.{over}
 use Rattle.ring.specs.Ring.{capacity}
 use Rattle.wire.specs.Datagram.{headSize, ceiling, Message, ACK, encode, wire}
 use Rattle.receiving.specs.Calls.{positionBy, creditBy}
-use Rattle.sending.specs.declared.Tick.{Tick}
-use Rattle.sending.specs.declared.Stamp.{Stamp}
+use Rattle.segments.specs.declared.Tick.{Tick}
+use Rattle.segments.specs.declared.Stamp.{Stamp}
 use Rattle.sending.specs.declared.Sent.{Sent}
 use Rattle.sending.specs.Sending.{datagramsMost}
 use Rattle.sending.specs.Outcome.{datagramMost, Sends}

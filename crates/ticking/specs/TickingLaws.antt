@@ -20,8 +20,8 @@ use Rattle.wire.specs.Datagram.{headSize, ceiling, Message, ACK, kindOf, flagsO
 use Rattle.wire.specs.DatagramLaws.{encode-length}
 use Rattle.receiving.specs.declared.Scalars.{Scalars}
 use Rattle.receiving.specs.Calls.{positionBy, creditBy}
-use Rattle.sending.specs.declared.Tick.{Tick}
-use Rattle.sending.specs.declared.Stamp.{Stamp}
+use Rattle.segments.specs.declared.Tick.{Tick}
+use Rattle.segments.specs.declared.Stamp.{Stamp}
 use Rattle.sending.specs.declared.Sent.{Sent}
 use Rattle.sending.specs.Sending.{segmentsMost, datagramsMost}
 use Rattle.sending.specs.Outcome.{datagramMost, Room, Sends}

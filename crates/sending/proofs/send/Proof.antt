@@ -1,7 +1,7 @@
 -- `sending::send` meets its contract. Assumes nothing.
 use native.Mathlib.Omega.{arith}
 use Rattle.ring.specs.Ring.{span}
-use Rattle.sending.specs.Buffers.{segs}
+use Rattle.segments.specs.Segments.{segs}
 use Rattle.sending.specs.Steps.{cutsOf, stepsOf}
 use Rattle.sending.proofs.Steps.{probe-none, probe-one, probes-allow}
 use borrow.Author.Needs.{needs}

@@ -6,8 +6,8 @@ use native.Mathlib.Numerals.{add-one}
 use native.Mathlib.Omega.{arith}
 use lib.ListN.{length, getD, set}
 use lib.Seq.{getD-set-same, getD-set-other}
-use Rattle.sending.specs.Sending.{segmentsMost, Segment}
-use Rattle.sending.specs.Buffers.{segs}
+use Rattle.segments.specs.Segments.{segmentsMost, Segment}
+use Rattle.segments.specs.Segments.{segs}
 
 -- segment number k
 abbrev pub seg : List ℕ → List ℕ → ℕ → Segment

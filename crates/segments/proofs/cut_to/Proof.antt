@@ -1,8 +1,8 @@
--- `sending::cut_to` meets its contract. Assumes nothing.
-use Rattle.sending.specs.StepLaws.{cut-to-end, cut-to-more, cut-to-open}
+-- `segments::cut_to` meets its contract. Assumes nothing.
+use Rattle.segments.specs.StepLaws.{cut-to-end, cut-to-more, cut-to-open}
 use borrow.Author.Needs.{needs}
-use Rattle.sending.proofs.cut_to.Statement.{statement}
-use Rattle.sending.proofs.cut_to.Tie as tie
+use Rattle.segments.proofs.cut_to.Statement.{statement}
+use Rattle.segments.proofs.cut_to.Tie as tie
 
 new-bytes-requires : tie.Need-new-bytes-requires
 new-bytes-requires c κs = search needs

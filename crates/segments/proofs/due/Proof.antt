@@ -1,11 +1,11 @@
--- `sending::due` meets its contract. Assumes nothing.
+-- `segments::due` meets its contract. Assumes nothing.
 use native.Mathlib.Omega.{arith}
-use Rattle.sending.specs.Steps.{dueOf}
+use Rattle.segments.specs.Steps.{dueOf}
 use borrow.Author.Tests.{le-leb, lt-leb}
 use Prim.Native.Nat.{_-_, _≤_, _<_}
 use borrow.Author.Needs.{needs}
-use Rattle.sending.proofs.due.Statement.{statement}
-use Rattle.sending.proofs.due.Tie as tie
+use Rattle.segments.proofs.due.Statement.{statement}
+use Rattle.segments.proofs.due.Tie as tie
 
 minus-requires : tie.Need-minus-requires
 minus-requires c κs = search needs

@@ -1,10 +1,10 @@
--- `sending::send_probe` meets its contract. Assumes nothing.
+-- `segments::send_probe` meets its contract. Assumes nothing.
 use native.Mathlib.Omega.{arith}
-use Rattle.sending.proofs.Data.{sent-probe}
+use Rattle.segments.proofs.Data.{sent-probe}
 use Prim.Native.Nat.{_+_, _-_}
 use borrow.Author.Needs.{needs}
-use Rattle.sending.proofs.send_probe.Statement.{statement}
-use Rattle.sending.proofs.send_probe.Tie as tie
+use Rattle.segments.proofs.send_probe.Statement.{statement}
+use Rattle.segments.proofs.send_probe.Tie as tie
 
 add-t7 : tie.Need-add-t7
 add-t7 c = search needs

@@ -10,10 +10,10 @@ use lib.Dec.{leb, ltb}
 use lib.ListN.{length}
 use borrow.Author.Tests.{eq-eqb, ne-eqb, ltb-true, lt-ltb, le-ltb}
 use Rattle.wire.specs.Datagram.{payloadMost}
-use Rattle.sending.specs.declared.Tick.{Tick}
-use Rattle.sending.specs.declared.Line.{Line}
-use Rattle.sending.specs.Sending.{segmentsMost, Segment, startOf, dataOf}
-use Rattle.sending.specs.Steps.{dueOf, againOf, resendOf, Cut, cutTo, cutOne, cutOf}
+use Rattle.segments.specs.declared.Tick.{Tick}
+use Rattle.segments.specs.declared.Line.{Line}
+use Rattle.segments.specs.Segments.{segmentsMost, Segment, startOf, dataOf}
+use Rattle.segments.specs.Steps.{dueOf, againOf, resendOf, Cut, cutTo, cutOne, cutOf}
 
 -- two tests
 pub and-left : (a b : Bool) → (a && b) ≡ true → a ≡ true

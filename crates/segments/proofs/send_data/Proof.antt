@@ -1,10 +1,10 @@
--- `sending::send_data` meets its contract. Assumes nothing.
+-- `segments::send_data` meets its contract. Assumes nothing.
 use native.Mathlib.Omega.{arith}
-use Rattle.sending.proofs.Data.{sent-data}
+use Rattle.segments.proofs.Data.{sent-data}
 use Prim.Native.Nat.{_+_, _-_}
 use borrow.Author.Needs.{needs}
-use Rattle.sending.proofs.send_data.Statement.{statement}
-use Rattle.sending.proofs.send_data.Tie as tie
+use Rattle.segments.proofs.send_data.Statement.{statement}
+use Rattle.segments.proofs.send_data.Tie as tie
 
 size-requires : tie.Need-size-requires
 size-requires c κs = search needs
