@@ -126,10 +126,18 @@ pub fn calls(rounds: usize) -> Result<Vec<Row>, String> {
 fn row(case: &Case, rounds: usize) -> Result<Row, String> {
     let mut took = Pair::default();
     for _ in 0..rounds {
-        took.rattle.0.push(case.run(&mut case.prepare::<Rattle>()?)?);
-        took.rust.0.push(case.run(&mut case.prepare::<Rust>()?)?);
+        took.rattle.0.push(time::<Rattle>(case)?);
+        took.rust.0.push(time::<Rust>(case)?);
     }
     Ok(Row { name: case.name, count: case.count(), took })
+}
+
+/// What a row of calls takes.
+fn time<M: Machine>(case: &Case) -> Result<Duration, String> {
+    let mut end = case.prepare::<M>()?;
+    let start = Instant::now();
+    case.run(&mut end)?;
+    Ok(start.elapsed())
 }
 
 /// Whole transfers of 1, 10 and 100 million bytes.
@@ -148,20 +156,20 @@ fn wholes(bytes: usize, rounds: usize) -> Result<Whole, String> {
     Ok(all)
 }
 
-/// One transfer on one machine, and how many segments it has; dry without the transfer itself.
-pub fn transfer_once<M: Machine>(bytes: usize, dry: bool) -> Result<usize, String> {
+/// One transfer on one machine, or all before it, and how many segments it has.
+pub fn transfer_once<M: Machine>(bytes: usize, before: bool) -> Result<usize, String> {
     let mut buffers = Buffers::new(bytes);
     let ends = transfer::ends::<M>()?;
-    if !dry {
+    if !before {
         transfer::run(ends, &buffers.text, &mut buffers.room, &mut Off);
     }
     Ok(bytes.div_ceil(PAYLOAD))
 }
 
-/// One row of calls on one machine, and how many they are; dry without the calls themselves.
-pub fn calls_once<M: Machine>(case: &Case, dry: bool) -> Result<usize, String> {
+/// One row of calls on one machine, or all before it, and how many calls it has.
+pub fn calls_once<M: Machine>(case: &Case, before: bool) -> Result<usize, String> {
     let mut end = case.prepare::<M>()?;
-    if !dry {
+    if !before {
         case.run(&mut end)?;
     }
     Ok(case.count())

@@ -57,11 +57,11 @@ fn compare(options: &Options) -> Result<(), String> {
     Ok(())
 }
 
-/// What is to be counted, once; answers how many segments or calls it is.
+/// What is to be counted, once; prints how many segments or calls it is.
 fn run_only<M: Machine>(only: &Only) -> Result<(), String> {
     let count = match &only.call {
-        Some(case) => compare::calls_once::<M>(case, only.dry)?,
-        None => compare::transfer_once::<M>(only.bytes, only.dry)?,
+        Some(case) => compare::calls_once::<M>(case, only.before)?,
+        None => compare::transfer_once::<M>(only.bytes, only.before)?,
     };
     println!("{count}");
     Ok(())

@@ -26,7 +26,7 @@ fn wrong_options_get_a_line() {
         ("--bytes", "--bytes needs a number"),
         ("--only c", "--only c: not rattle or rust"),
         ("--only rust --rounds 3", "--rounds is not for --only"),
-        ("--dry", "--call and --dry are for --only"),
+        ("--stop after", "--call and --stop are for --only"),
         ("--only rust --call nothing", "--call nothing: not one of `bench --names`"),
         ("7", "unknown option 7"),
     ];
