@@ -1,6 +1,6 @@
 # make test: everything that is checked, as the gate runs it. make demo: see it work. make bench: how fast it is beside
-# plain Rust. make cost: what the proofs cost.
-.PHONY: test demo bench cost
+# plain Rust. make instructions: the same, counted and not timed. make cost: what the proofs cost.
+.PHONY: test demo bench instructions cost
 
 test:
 	@tools/test
@@ -10,6 +10,9 @@ demo:
 
 bench:
 	@tools/hosts cargo run --release --offline --quiet --manifest-path host/Cargo.toml --package bench
+
+instructions:
+	@tools/hosts tools/instructions
 
 cost:
 	@tools/cost

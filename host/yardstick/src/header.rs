@@ -71,6 +71,7 @@ impl Header {
     /// Writes the header to the first 32 bytes of `out`.
     #[inline]
     pub fn write(&self, out: &mut [u8]) {
+        let out = out.first_chunk_mut::<HEADER>().expect("room for a header");
         out[0] = match self.kind {
             Kind::Data => 1,
             Kind::Ack => 2,

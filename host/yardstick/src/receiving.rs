@@ -86,11 +86,16 @@ impl Receiving {
         } else if after > self.low {
             let from = data.position.max(self.low);
             let fresh = &payload[(from - data.position) as usize..];
-            if self.beyond.is_empty() && from == self.low {
-                self.ring.put(from, fresh);
-                self.low = after;
-            } else {
-                self.fill(from, fresh);
+            match self.beyond.last_mut() {
+                None if from == self.low => {
+                    self.ring.put(from, fresh);
+                    self.low = after;
+                }
+                Some(last) if from == last.to => {
+                    self.ring.put(from, fresh);
+                    last.to = after;
+                }
+                _ => self.fill(from, fresh),
             }
         }
     }

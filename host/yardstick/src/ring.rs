@@ -17,20 +17,32 @@ impl Ring {
     /// Puts `bytes` at `position` and after it, in two copies where they cross the seam.
     #[inline]
     pub fn put(&mut self, position: u64, bytes: &[u8]) {
-        let at = (position % RING as u64) as usize;
-        let straight = bytes.len().min(RING - at);
-        let (first, second) = bytes.split_at(straight);
-        self.bytes[at..at + straight].copy_from_slice(first);
-        self.bytes[..second.len()].copy_from_slice(second);
+        let at = place(position);
+        if let Some(straight) = self.bytes.get_mut(at..at + bytes.len()) {
+            straight.copy_from_slice(bytes);
+        } else {
+            let (first, second) = bytes.split_at(RING - at);
+            self.bytes[at..].copy_from_slice(first);
+            self.bytes[..second.len()].copy_from_slice(second);
+        }
     }
 
     /// Fills `out` with the bytes from `position` on.
     #[inline]
     pub fn get(&self, position: u64, out: &mut [u8]) {
-        let at = (position % RING as u64) as usize;
-        let straight = out.len().min(RING - at);
-        let (first, second) = out.split_at_mut(straight);
-        first.copy_from_slice(&self.bytes[at..at + straight]);
-        second.copy_from_slice(&self.bytes[..second.len()]);
+        let at = place(position);
+        if let Some(straight) = self.bytes.get(at..at + out.len()) {
+            out.copy_from_slice(straight);
+        } else {
+            let (first, second) = out.split_at_mut(RING - at);
+            first.copy_from_slice(&self.bytes[at..]);
+            second.copy_from_slice(&self.bytes[..second.len()]);
+        }
     }
+}
+
+/// Where the byte of a position is.
+#[inline]
+fn place(position: u64) -> usize {
+    (position % RING as u64) as usize
 }

@@ -59,21 +59,18 @@ impl Window {
         self.marks[word] |= bit;
     }
 
-    /// Clears the marks of the numbers above the highest, up to `number`.
+    /// Clears the marks of the numbers between the highest and `number`.
     fn pass(&mut self, number: u64) {
         if number - self.highest >= WINDOW {
             self.marks = [0; WORDS];
             return;
         }
         let mut next = self.highest + 1;
-        while next <= number {
-            let count = (64 - next % 64).min(number - next + 1);
-            let ones = if count == 64 { u64::MAX } else { (1 << count) - 1 };
+        while next < number {
+            let count = (64 - next % 64).min(number - next);
+            let ones = u64::MAX >> (64 - count);
             self.marks[place(next).0] &= !(ones << (next % 64));
-            match next.checked_add(count) {
-                Some(after) => next = after,
-                None => return,
-            }
+            next += count;
         }
     }
 }
