@@ -1,8 +1,15 @@
--- What the first 0 of a buffer is, and a buffer of nothing but 0.
+-- The first 0 of a buffer, and a buffer of nothing but 0.
 use mathlib.Core.Path.{_≡_}
 use mathlib.Core.List.{List}
 use Prim.Native.Nat.{ℕ, _<_, _≤_}
 use lib.ListN.{length, getD}
+
+-- the bytes of a block that is copied, and of one that is searched
+abbrev pub copied : ℕ
+copied = 128
+
+abbrev pub searched : ℕ
+searched = 64
 
 -- r is the index of the first 0 of m from index a on, or m's length where there is none
 pub record Zero (m : List ℕ) (a r : ℕ) : Type 0 where

@@ -1,9 +1,14 @@
-// Memory copied and searched sixteen bytes at a time, and filled.
+// Memory copied and searched in blocks, and filled.
 ghost use mathlib.Core.Path.{_≡_};
 ghost use Prim.Native.Nat.{ℕ, _+_, _≤_, _<_};
 ghost use lib.ListN.{length, drop, getD, replicate};
 ghost use lib.Seq.{paste};
-ghost use Rattle.copies.specs.Search.{Zero, Blank};
+ghost use Rattle.copies.specs.Search.{copied, searched, Zero, Blank};
+
+// The bytes of a block that is copied, and of one that is searched.
+const COPIED: usize = 128;
+
+const SEARCHED: usize = 64;
 
 // Copies all of src into dst, byte by byte.
 fn bytes(dst: &mut [u8], src: &[u8])
@@ -17,33 +22,33 @@ fn bytes(dst: &mut [u8], src: &[u8])
     }
 }
 
-// Copies the sixteen bytes from index at on, through a local, so that they are one load and one store.
+// Copies a block from index at on, through a local: its bytes are all loaded, and then all stored, sixteen at a time.
 fn block(dst: &mut [u8], at: usize, src: &[u8])
     requires { ⌜ length (now dst) ≡ length (now src) ⌝ }
-    requires { ⌜ at + 16 ≤ length (now src) ⌝ }
-    ensures { λ _. ⌜ now (dst .exit) ≡ paste (now (dst .entry)) at (drop at (now (src .entry))) 16 ⌝ }
+    requires { ⌜ at + copied ≤ length (now src) ⌝ }
+    ensures { λ _. ⌜ now (dst .exit) ≡ paste (now (dst .entry)) at (drop at (now (src .entry))) copied ⌝ }
 {
-    let e = at + 16;
-    let mut t = [0u8; 16];
+    let e = at + COPIED;
+    let mut t = [0u8; COPIED];
     bytes(&mut t, &src[at..e]);
     bytes(&mut dst[at..e], &t);
 }
 
-// Copies all of src into dst, in blocks of sixteen bytes, of which the last may overlap the one before.
+// Copies all of src into dst, in blocks, of which the last may overlap the one before.
 pub fn copy(dst: &mut [u8], src: &[u8])
     requires { ⌜ length (now dst) ≡ length (now src) ⌝ }
     ensures { λ _. ⌜ now (dst .exit) ≡ now (src .entry) ⌝ }
 {
     let n = src.len();
-    if n < 16 {
+    if n < COPIED {
         bytes(dst, src);
     } else {
         let mut i = 0;
-        while 16 <= n - i {
+        while COPIED <= n - i {
             block(dst, i, src);
-            i += 16;
+            i += COPIED;
         }
-        block(dst, n - 16, src);
+        block(dst, n - COPIED, src);
     }
 }
 
@@ -58,14 +63,14 @@ pub fn fill(m: &mut [u8], v: u8)
     }
 }
 
-// 0 where none of the sixteen bytes from index at on is 0. The loop has no early exit, so that it is one comparison of sixteen bytes.
+// 0 where no byte of the block from index at on is 0. The loop has no early exit, so that it compares sixteen bytes at a time.
 fn zeros(m: &[u8], at: usize) -> u8
-    requires { ⌜ at + 16 ≤ length (now m) ⌝ }
-    ensures { λ r. ⌜ (r ≡ 0 → (k : ℕ) → k < 16 → getD (now (m .entry)) (at + k) 0 ≡ 0 → ⊥) ⌝ }
+    requires { ⌜ at + searched ≤ length (now m) ⌝ }
+    ensures { λ r. ⌜ (r ≡ 0 → (k : ℕ) → k < searched → getD (now (m .entry)) (at + k) 0 ≡ 0 → ⊥) ⌝ }
 {
     let mut z = 0;
     let mut j = 0;
-    while j < 16 {
+    while j < SEARCHED {
         if m[at + j] == 0 {
             z = 1;
         }
@@ -95,11 +100,11 @@ pub fn first_zero(m: &[u8], from: usize) -> usize
     ensures { λ r. ⌜ Zero (now (m .entry)) from r ⌝ }
 {
     let mut i = from;
-    while 16 <= m.len() - i {
+    while SEARCHED <= m.len() - i {
         if zeros(m, i) != 0 {
             return first_zero_slow(m, i);
         }
-        i += 16;
+        i += SEARCHED;
     }
     first_zero_slow(m, i)
 }

@@ -4,6 +4,7 @@ use Prim.Native.Nat.{_+_, _-_}
 use native.Mathlib.Omega.{arith}
 use lib.ListN.{drop}
 use Rattle.copies.proofs.CopyingLaws.{put-paste}
+use Rattle.copies.specs.Search.{copied}
 use borrow.Author.Needs.{needs}
 use Rattle.copies.proofs.block.Statement.{statement}
 use Rattle.copies.proofs.block.Tie as tie
@@ -48,7 +49,7 @@ returns : tie.Need-returns
 returns c =
     let a = c .before .before .before .before .before .before .before .before .before .before .before .args in
     let v = c .before .before .before .before .before .before .bytes .ensures in
-    put-paste (a .dst .now) (drop (a .at) (a .src .now)) (c .before .before .bytes2 .last .0) (a .at) (a .at + 16 - a .at) 16 (omega arith)
+    put-paste (a .dst .now) (drop (a .at) (a .src .now)) (c .before .before .bytes2 .last .0) (a .at) (a .at + copied - a .at) copied (omega arith)
     (c .before .before .bytes2 .ensures ∙ v)
 
 pub block-spec : {M : Type 1} → statement M

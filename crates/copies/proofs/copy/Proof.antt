@@ -5,6 +5,7 @@ use Prim.Native.Nat.{_-_, _≤_}
 use native.Mathlib.Omega.{arith}
 use lib.ListN.{length, take, drop}
 use Rattle.copies.proofs.CopyingLaws.{paste-more, paste-last}
+use Rattle.copies.specs.Search.{copied}
 use borrow.Author.Needs.{needs}
 use Rattle.copies.proofs.copy.Statement.{statement}
 use Rattle.copies.proofs.copy.Tie as tie
@@ -38,7 +39,7 @@ loop-again c =
     let l = c .before .before .before .before .before .loop in
     let a = c .before .before .before .before .before .before .before .before .before .args in (
       search needs,
-      (search needs, c .before .before .block .ensures ∙ paste-more (a .src .now) (a .dst .now) (l .dst) (l .i) 16 (l .inv .1 .1) (l .inv .0)),
+      (search needs, c .before .before .block .ensures ∙ paste-more (a .src .now) (a .dst .now) (l .dst) (l .i) copied (l .inv .1 .1) (l .inv .0)),
     )
 
 block-requires-2 : tie.Need-block-requires-2 Inv-loop μ-loop
@@ -58,7 +59,7 @@ returns-2 c =
     let l = c .before .before .before .before .before .loop in
     let a = c .before .before .before .before .before .before .before .before .before .args in
     c .before .before .block2 .ensures
-    ∙ paste-last (a .src .now) (a .dst .now) (l .dst) (l .i) (length (a .src .now) - 16) 16 (l .inv .1 .1) (l .inv .0) (omega arith) (omega arith) (omega arith)
+    ∙ paste-last (a .src .now) (a .dst .now) (l .dst) (l .i) (length (a .src .now) - copied) copied (l .inv .1 .1) (l .inv .0) (omega arith) (omega arith) (omega arith)
 
 pub copy-spec : {M : Type 1} → statement M
 copy-spec =

@@ -2,6 +2,7 @@
 use mathlib.Core.Path.{_≡_}
 use Prim.Native.Nat.{ℕ, _-_, _≤_, _<_}
 use lib.ListN.{length, getD}
+use Rattle.copies.specs.Search.{searched}
 use borrow.Author.Needs.{needs}
 use Rattle.copies.proofs.SearchLaws.{more-nonzero, zero-from}
 use Rattle.copies.proofs.first_zero.Statement.{statement}
@@ -42,7 +43,7 @@ loop-again c = (
   search needs,
   (
     search needs,
-    more-nonzero (c .before .before .before .before .before .args .m .now) (c .before .before .before .before .before .args .from) (c .before .before .before .loop .i) 16
+    more-nonzero (c .before .before .before .before .before .args .m .now) (c .before .before .before .before .before .args .from) (c .before .before .before .loop .i) searched
         (c .before .before .before .loop .inv .1 .1)
         (c .before .zeros .ensures (search needs)),
   ),

@@ -4,16 +4,17 @@ use mathlib.Core.Logic.{⊎-elim}
 use Prim.Native.Nat.{ℕ, _+_, _-_, _≤_, _<_}
 use native.Mathlib.Omega.{arith}
 use lib.ListN.{getD}
+use Rattle.copies.specs.Search.{searched}
 use borrow.Author.Needs.{needs}
 use borrow.Author.Count.{below-more}
 use Rattle.copies.proofs.zeros.Statement.{statement}
 use Rattle.copies.proofs.zeros.Tie as tie
 
 abbrev Inv-loop : tie.InvT-loop
-Inv-loop m at z₀ j₀ z j = (j ≤ 16) × (z ≡ 0 → (k : ℕ) → k < j → getD m (at + k) 0 ≡ 0 → ⊥)
+Inv-loop m at z₀ j₀ z j = (j ≤ searched) × (z ≡ 0 → (k : ℕ) → k < j → getD m (at + k) 0 ≡ 0 → ⊥)
 
 abbrev μ-loop : tie.MeasureT-loop
-μ-loop m at z₀ j₀ z j = 16 - j
+μ-loop m at z₀ j₀ z j = searched - j
 
 loop-holds : tie.Need-loop-holds Inv-loop μ-loop
 loop-holds c = search needs
