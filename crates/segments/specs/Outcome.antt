@@ -3,7 +3,6 @@ use mathlib.Core.Path.{_≡_}
 use mathlib.Core.List.{List, []}
 use Prim.Native.Nat.{ℕ, _+_, _*_, _≤_, _<_}
 use lib.ListN.{length}
-use borrow.Rule.Slice.PartMut.{putMid}
 use Rattle.laws.specs.Over.{over}
 use Rattle.ring.specs.Ring.{capacity, span}
 use Rattle.wire.specs.Datagram.{ceiling, wire}
@@ -15,16 +14,7 @@ use Rattle.segments.specs.declared.Wrote.{Wrote}
 use Rattle.segments.specs.declared.Added.{Added}
 use Rattle.segments.specs.Segments.{segmentsMost, datagramsMost, segs}
 use Rattle.segments.specs.Steps.{Resent, resendOf, Cut, cutOf, cutsOf}
-
--- 32 and 1,024
-abbrev pub datagramMost : ℕ
-datagramMost = 1056
-
--- x is out, but for the datagram d at o
-pub record SentOne (out : List ℕ) (o : ℕ) (d : List ℕ) (r : ℕ) (x : List ℕ) : Type 0 where
-  pub size : r ≡ length d
-  pub small : r ≤ datagramMost
-  pub is : x ≡ putMid o (length d) out d
+pub use Rattle.output.specs.Output.{datagramMost, SentOne}
 
 -- the buffers are as long as they are to be, the scalars are plausible, and clock and numbers last
 pub record Room (w : Tick) (e : Stamp) (l : Line) (p : Row) (out ring ends times : List ℕ) : Type 0 where

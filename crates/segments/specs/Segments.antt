@@ -1,10 +1,9 @@
--- 01 §6: segments, what they carry, and how they are read out of the lent tables. Lists of segments and of messages have the newest first.
+-- 01 §6: segments, and how they are read out of the lent tables. Lists of segments and of messages have the newest first.
 use mathlib.Core.List.{List, [], _∷_}
-use Prim.Native.Nat.{ℕ, zero, suc, _+_, _-_, _%_, min}
-use lib.Dec.{ltb}
+use Prim.Native.Nat.{ℕ, zero, suc, _+_, _%_}
 use lib.ListN.{getD}
-use Rattle.laws.specs.Choice.{if}
-use Rattle.wire.specs.Datagram.{payloadMost, Message, DATA}
+pub use Rattle.output.specs.Output.{sizeOf, endOf}
+unfoldable pub use Rattle.output.specs.Output.{dataOf}
 
 -- at most so many segments are kept, and at most so many datagrams leave in a tick
 abbrev pub segmentsMost : ℕ
@@ -22,18 +21,6 @@ pub record Segment : Type 0 where
 unfoldable pub startOf : ℕ → List Segment → ℕ
 startOf acked [] = acked
 startOf acked (g ∷ gs) = g .to
-
--- how many bytes a segment from a to b carries
-abbrev pub sizeOf : ℕ → ℕ → ℕ → ℕ
-sizeOf given a b = min payloadMost (min b given - a)
-
--- 1, the END, where a segment to b reaches beyond the last byte
-abbrev pub endOf : ℕ → ℕ → ℕ
-endOf given b = if (ltb given b) 1 0
-
--- the DATA of a segment from a to b; `part p n` gives the n bytes from position p on
-unfoldable pub dataOf : ℕ → (ℕ → ℕ → List ℕ) → ℕ → ℕ → Message
-dataOf given part a b = DATA a (part a (sizeOf given a b)) (endOf given b)
 
 -- the n segments from number k on: number s stands at s % 64
 unfoldable pub segs : List ℕ → List ℕ → ℕ → ℕ → List Segment

@@ -1,17 +1,12 @@
 // 01 section 6, steps 2 and 3: segments, cut, sent and sent again as datagrams.
 ghost use mathlib.Core.Path.{_≡_};
-ghost use mathlib.Core.List.{_++_};
 ghost use Prim.Native.Nat.{_+_, _-_, _%_, _≤_, _<_, min};
 ghost use lib.ListN.{length};
-ghost use Rattle.ring.specs.Ring.{capacity, span};
-ghost use Rattle.wire.specs.Datagram.{headSize, payloadMost, ceiling, PROBE, headOf, encode};
-ghost use Rattle.segments.specs.Segments.{segmentsMost, sizeOf, endOf, dataOf};
+ghost use Rattle.wire.specs.Datagram.{payloadMost, ceiling};
+ghost use Rattle.segments.specs.Segments.{segmentsMost};
 ghost use Rattle.segments.specs.Steps.{dueOf, cutTo};
-ghost use Rattle.segments.specs.Outcome.{datagramMost, SentOne, Room, Resends, Cuts, Both};
+ghost use Rattle.segments.specs.Outcome.{Room, Resends, Cuts, Both};
 use wire::PAYLOAD_MOST;
-
-// The bytes before the payload.
-const HEAD: usize = 32;
 
 // At most so many segments are kept.
 pub const SEGMENTS: u64 = 64;
@@ -58,101 +53,6 @@ pub struct Added {
     pub kept: u64,
 }
 
-// a less b, or 0.
-pub fn minus(a: u64, b: u64) -> u64
-    ensures { λ r. ⌜ r ≡ a - b ⌝ }
-{
-    if b < a { a - b } else { 0 }
-}
-
-// The lower of two numbers.
-pub fn least(a: u64, b: u64) -> u64
-    ensures { λ r. ⌜ r ≡ min a b ⌝ }
-{
-    if a < b { a } else { b }
-}
-
-// How many bytes the segment from..to carries.
-fn size(given: u64, from: u64, to: u64) -> u64
-    ensures { λ r. ⌜ r ≡ sizeOf given from to ⌝ }
-{
-    least(PAYLOAD_MOST, minus(least(to, given), from))
-}
-
-// 1 where a segment to `to` has the END.
-fn end_flag(given: u64, to: u64) -> u64
-    ensures { λ r. ⌜ r ≡ endOf given to ⌝ }
-{
-    if given < to { 1 } else { 0 }
-}
-
-// The n bytes of the ring from the position pos on, in all of dst.
-fn fetch(dst: &mut [u8], n: usize, ring: &[u8], pos: u64)
-    requires { ⌜ (n ≤ capacity) × ((length (now dst) ≡ n) × (length (now ring) ≡ capacity)) ⌝ }
-    ensures { λ _. ⌜ now (dst .exit) ≡ span (now (ring .entry)) pos n ⌝ }
-{
-    ring::ring_get(dst, ring, pos);
-}
-
-// A datagram with its payload, the h.length bytes of the ring from h.position on, in all of out.
-fn put_data(out: &mut [u8], ring: &[u8], h: wire::Header)
-    requires { ⌜ (h .length ≤ payloadMost) × ((length (now out) ≡ headSize + h .length) × (length (now ring) ≡ capacity)) ⌝ }
-    ensures { λ _. ⌜ now (out .exit) ≡ headOf h ++ span (now (ring .entry)) (h .position) (h .length) ⌝ }
-{
-    let n = h.length as usize;
-    let e = HEAD + n;
-    wire::write(&mut out[0..HEAD], h);
-    fetch(&mut out[HEAD..e], n, ring, h.position);
-}
-
-// The DATA of the segment from..to, after n others of this tick, at o of out. Answers its length.
-fn send_data(
-    out: &mut [u8],
-    o: usize,
-    ring: &[u8],
-    e: Stamp,
-    n: u64,
-    given: u64,
-    from: u64,
-    to: u64,
-) -> usize
-    requires { ⌜ (o + datagramMost ≤ length (now out)) × ((length (now ring) ≡ capacity) × (e .number + n < ceiling)) ⌝ }
-    ensures { λ r. ⌜ SentOne (now (out .entry)) o (encode (e .epoch) (e .number + n + 1) (dataOf given (span (now (ring .entry))) from to)) r (now (out .exit)) ⌝ }
-{
-    let len = size(given, from, to);
-    let flags = end_flag(given, to);
-    let h = wire::Header {
-        kind: 1,
-        flags: flags,
-        length: len,
-        epoch: e.epoch,
-        number: e.number + n + 1,
-        position: from,
-        credit: 0,
-    };
-    let m = HEAD + len as usize;
-    put_data(&mut out[o..o + m], ring, h);
-    m
-}
-
-// A PROBE at a position, after n others of this tick, at o of out. Answers its length.
-pub fn send_probe(out: &mut [u8], o: usize, e: Stamp, n: u64, position: u64) -> usize
-    requires { ⌜ (o + datagramMost ≤ length (now out)) × (e .number + n < ceiling) ⌝ }
-    ensures { λ r. ⌜ SentOne (now (out .entry)) o (encode (e .epoch) (e .number + n + 1) (PROBE position)) r (now (out .exit)) ⌝ }
-{
-    let h = wire::Header {
-        kind: 3,
-        flags: 0,
-        length: 0,
-        epoch: e.epoch,
-        number: e.number + n + 1,
-        position: position,
-        credit: 0,
-    };
-    wire::write(&mut out[o..o + HEAD], h);
-    HEAD
-}
-
 // The place in the tables of the segment after i older ones.
 fn place(p: Row, i: u64) -> usize
     requires { ⌜ (p .oldest < segmentsMost) × ((p .kept ≤ segmentsMost) × (i ≤ segmentsMost)) ⌝ }
@@ -165,7 +65,7 @@ fn place(p: Row, i: u64) -> usize
 fn due(w: Tick, at: u64, n: u64) -> bool
     ensures { λ r. ⌜ r ≡ dueOf w at n ⌝ }
 {
-    if w.every <= minus(w.now, at) {
+    if w.every <= output::minus(w.now, at) {
         n < w.allowed
     } else {
         false
@@ -197,7 +97,7 @@ fn resend(
         let at = place(p, i);
         let to = ends[at];
         if due(w, times[at], n) {
-            let m = send_data(out, o, ring, e, n, l.given, from, to);
+            let m = output::send_data(out, o, ring, e.epoch, e.number + n + 1, l.given, from, to);
             times[at] = w.now;
             o += m;
             n += 1;
@@ -215,7 +115,10 @@ fn resend(
 fn new_bytes(l: Line, a: u64) -> u64
     ensures { λ r. ⌜ r ≡ min payloadMost (min (l .given - a) (l .limit - a)) ⌝ }
 {
-    least(PAYLOAD_MOST, least(minus(l.given, a), minus(l.limit, a)))
+    output::least(
+        PAYLOAD_MOST,
+        output::least(output::minus(l.given, a), output::minus(l.limit, a)),
+    )
 }
 
 // Where a segment from a on would end.
@@ -270,7 +173,7 @@ fn cut(
                 kept: k,
             };
         }
-        let m = send_data(out, o, ring, e, n, l.given, a, to);
+        let m = output::send_data(out, o, ring, e.epoch, e.number + n + 1, l.given, a, to);
         let at = place(p, k);
         ends[at] = to;
         times[at] = w.now;

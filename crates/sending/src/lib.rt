@@ -70,7 +70,7 @@ pub fn plausible(l: Line, p: Row) -> bool
     if l.given + 1 < p.next {
         return false;
     }
-    if (CAPACITY as u64) < segments::minus(l.given, p.acked) {
+    if (CAPACITY as u64) < output::minus(l.given, p.acked) {
         return false;
     }
     if SEGMENTS <= p.oldest {
@@ -83,9 +83,9 @@ fn room(l: Line, acked: u64) -> u64
     ensures { λ r. ⌜ r ≡ roomOf l acked ⌝ }
 {
     if l.closed != 1 {
-        return segments::least(
-            segments::minus(CAPACITY as u64, segments::minus(l.given, acked)),
-            segments::minus(CEILING, l.given),
+        return output::least(
+            output::minus(CAPACITY as u64, output::minus(l.given, acked)),
+            output::minus(CEILING, l.given),
         );
     }
     0
@@ -96,7 +96,7 @@ pub fn give(ring: &mut [u8], l: Line, acked: u64, bytes: &[u8]) -> u64
     requires { ⌜ length (now ring) ≡ capacity ⌝ }
     ensures { λ r. ⌜ Gave l acked (now (ring .entry)) (now (bytes .entry)) r (now (ring .exit)) ⌝ }
 {
-    let n = segments::least(bytes.len() as u64, room(l, acked));
+    let n = output::least(bytes.len() as u64, room(l, acked));
     let k = n as usize;
     ring::ring_put(ring, l.given, &bytes[0..k]);
     n
@@ -174,7 +174,7 @@ fn ago(w: Tick, probed: u64) -> bool
     if probed == 0 {
         return true;
     }
-    w.every <= segments::minus(w.now, probed - 1)
+    w.every <= output::minus(w.now, probed - 1)
 }
 
 // Whether a PROBE is to leave, after `sent` others.
@@ -213,7 +213,7 @@ pub fn send(
 {
     let c = segments::resend_cut(out, ring, ends, times, w, e, l, p);
     if probes(w, l, probed, c.next, c.kept, c.count) {
-        let m = segments::send_probe(out, c.bytes, e, c.count, c.next);
+        let m = output::send_probe(out, c.bytes, e.epoch, e.number + c.count + 1, c.next);
         return Sent {
             bytes: c.bytes + m,
             count: c.count + 1,

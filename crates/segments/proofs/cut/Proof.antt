@@ -41,6 +41,12 @@ same-length-6 c = search needs
 returns-2 : tie.Need-returns-2 Inv-loop μ-loop
 returns-2 c = search (needs, cutting-nothing)
 
+add-send-data : tie.Need-add-send-data Inv-loop μ-loop
+add-send-data c = search needs
+
+add-send-data-2 : tie.Need-add-send-data-2 Inv-loop μ-loop
+add-send-data-2 c = search needs
+
 send-data-requires : tie.Need-send-data-requires Inv-loop μ-loop
 send-data-requires c κs = search needs
 
@@ -102,6 +108,8 @@ cut-spec =
     same-length-5
     same-length-6
     returns-2
+    add-send-data
+    add-send-data-2
     send-data-requires
     place-requires
     mul-ends

@@ -42,9 +42,15 @@ slice-read-due c = search needs
 due-requires : tie.Need-due-requires Inv-loop μ-loop
 due-requires c κs = search needs
 
+add-send-data : tie.Need-add-send-data Inv-loop μ-loop
+add-send-data c = search needs
+
+add-send-data-2 : tie.Need-add-send-data-2 Inv-loop μ-loop
+add-send-data-2 c = search needs
+
 send-data-requires : tie.Need-send-data-requires Inv-loop μ-loop
 send-data-requires c κs =
-    let f = due-allowed _ _ _ (c .before .before .due .ensures) (c .before .if3 .taken) in
+    let f = due-allowed _ _ _ (c .before .before .before .due .ensures) (c .before .before .if3 .taken) in
     search needs
 
 mul-times : tie.Need-mul-times Inv-loop μ-loop
@@ -67,7 +73,7 @@ loop-less c = search needs
 
 loop-again : tie.Need-loop-again Inv-loop μ-loop
 loop-again c =
-    (search needs, resending-send (c .before .before .before .before .before .before .before .before .before .before .before .before .before .loop .inv .1) (c .before .before .before .before .before .before .before .before .before .before .before .before .before .before .before .before .before .before .pre) (search needs) (c .before .before .before .before .before .before .before .before .place .ensures) (c .before .before .before .before .before .due .ensures) (c .before .before .before .before .if3 .taken) (c .before .before .send-data .ensures))
+    (search needs, resending-send (c .before .before .before .before .before .before .before .before .before .before .before .before .before .before .loop .inv .1) (c .before .before .before .before .before .before .before .before .before .before .before .before .before .before .before .before .before .before .before .pre) (search needs) (c .before .before .before .before .before .before .before .before .before .place .ensures) (c .before .before .before .before .before .before .due .ensures) (c .before .before .before .before .before .if3 .taken) (c .before .before .send-data .ensures))
 
 add-i-2 : tie.Need-add-i-2 Inv-loop μ-loop
 add-i-2 c = search needs
@@ -103,6 +109,8 @@ resend-spec =
     mul-due
     slice-read-due
     due-requires
+    add-send-data
+    add-send-data-2
     send-data-requires
     mul-times
     slice-write-times

@@ -14,22 +14,30 @@ resend-cut-requires c κs = search needs
 probes-requires : tie.Need-probes-requires
 probes-requires c κs = search needs
 
+add-send-probe : tie.Need-add-send-probe
+add-send-probe c = search needs
+
+add-send-probe-2 : tie.Need-add-send-probe-2
+add-send-probe-2 c = search needs
+
 send-probe-requires : tie.Need-send-probe-requires
 send-probe-requires c κs =
-    let f = probes-allow _ _ _ _ _ _ (c .before .before .probes .ensures) (c .before .if1 .taken) in
-    let d = c .before .before .before .before .before .before .before .before .before .resend-cut .ensures in
-    omega (arith, d .small, d .few, c .before .before .before .before .before .before .before .before .before .before .before .before .before .before .before .before .before .pre .out-size, c .before .before .before .before .before .before .before .before .before .before .before .before .before .before .before .before .before .pre .numbers)
-
-add-t21 : tie.Need-add-t21
-add-t21 c = search needs
-
-add-t22 : tie.Need-add-t22
-add-t22 c = search needs
+    let f = probes-allow _ _ _ _ _ _ (c .before .before .before .before .probes .ensures) (c .before .before .before .if1 .taken) in
+    let d = c .before .before .before .before .before .before .before .before .before .before .before .resend-cut .ensures in
+    omega (arith, d .small, d .few, c .before .before .before .before .before .before .before .before .before .before .before .before .before .before .before .before .before .before .before .pre .out-size)
 
 add-t23 : tie.Need-add-t23
 add-t23 c =
     let d = c .before .before .before .before .before .before .before .before .before .before .before .before .before .before .before .resend-cut .ensures in
-    omega (arith, d .small, d .few, c .before .before .before .before .before .send-probe .ensures .small, c .before .before .before .before .before .before .before .before .before .before .before .before .before .before .before .before .before .before .before .before .before .before .before .pre .most, c .before .before .before .before .before .before .before .before .before .before .before .before .before .before .before .before .before .before .before .before .before .before .before .pre .now)
+    omega (arith, d .small, d .few, c .before .before .before .send-probe .ensures .small, c .before .before .before .before .before .before .before .before .before .before .before .before .before .before .before .before .before .before .before .before .before .before .before .pre .most)
+
+add-t21 : tie.Need-add-t21
+add-t21 c =
+    let d = c .before .before .before .before .before .before .before .before .before .before .before .before .before .before .before .before .resend-cut .ensures in
+    omega (arith, d .few, c .before .before .before .before .before .before .before .before .before .before .before .before .before .before .before .before .before .before .before .before .before .before .before .before .pre .most)
+
+add-t22 : tie.Need-add-t22
+add-t22 c = omega (arith, c .before .before .before .before .before .before .before .before .before .before .before .before .before .before .before .before .before .before .before .before .before .before .before .before .before .pre .now)
 
 same-length : tie.Need-same-length
 same-length c = search needs
@@ -43,11 +51,11 @@ same-length-3 c = search needs
 returns : tie.Need-returns
 unfolding stepsOf
 returns c =
-    let a = c .before .before .before .before .before .before .before .before .before .before .before .before .before .before .before .before .before .before .before .before .before .before .before .args in
-    let r = c .before .before .before .before .before .before .before .before .before .before .before .before .before .before .before .resend-cut in
-    let q = c .before .before .before .before .before .before .before .before .probes in
+    let a = c .before .before .before .before .before .before .before .before .before .before .before .before .before .before .before .before .before .before .before .before .before .before .before .before .before .args in
+    let r = c .before .before .before .before .before .before .before .before .before .before .before .before .before .before .before .before .before .resend-cut in
+    let q = c .before .before .before .before .before .before .before .before .before .before .probes in
     let C = cutsOf (a .w) (a .l) (span (a .ring .now)) (a .p .acked) (a .p .next) (segs (a .ends .now) (a .times .now) (a .p .oldest) (a .p .kept)) in
-    probe-one (a .w) (a .e) (a .l) (a .p) (a .probed) (a .out .now) C (r .result) _ _ _ (q .result) (r .ensures) (q .ensures) _ _ (c .before .before .before .before .before .before .before .if1 .taken) (c .before .before .before .before .before .send-probe .ensures)
+    probe-one (a .w) (a .e) (a .l) (a .p) (a .probed) (a .out .now) C (r .result) _ _ _ (q .result) (r .ensures) (q .ensures) _ _ (c .before .before .before .before .before .before .before .before .before .if1 .taken) (c .before .before .before .before .before .send-probe .ensures)
 
 same-length-4 : tie.Need-same-length-4
 same-length-4 c = search needs
@@ -73,10 +81,12 @@ send-spec =
     (tie.spec
     resend-cut-requires
     probes-requires
+    add-send-probe
+    add-send-probe-2
     send-probe-requires
+    add-t23
     add-t21
     add-t22
-    add-t23
     same-length
     same-length-2
     same-length-3

@@ -9,8 +9,7 @@ use Rattle.ring.specs.Ring.{span}
 use Rattle.ring.specs.SpanLaws.{span-length}
 use Rattle.wire.specs.Datagram.{headSize, PROBE, kindOf, flagsOf, positionOf, creditOf, payloadOf, headOf, headerOf, encode}
 use Rattle.wire.specs.DatagramLaws.{head-length, encode-length}
-use Rattle.segments.specs.Segments.{sizeOf, endOf, dataOf}
-use Rattle.segments.specs.Outcome.{SentOne}
+use Rattle.output.specs.Output.{sizeOf, endOf, dataOf, SentOne}
 
 -- the header and the bytes of a segment's DATA are the datagram
 pub data-is : (given : ℕ) (ring : List ℕ) (e n a b len flags : ℕ) → len ≡ sizeOf given a b → flags ≡ endOf given b

@@ -1,22 +1,16 @@
--- `segments::send_data` meets its contract. Assumes nothing.
+-- `output::send_data` meets its contract. Assumes nothing.
 use native.Mathlib.Omega.{arith}
-use Rattle.segments.proofs.Data.{sent-data}
+use Rattle.output.proofs.Data.{sent-data}
 use Prim.Native.Nat.{_+_, _-_}
 use borrow.Author.Needs.{needs}
-use Rattle.segments.proofs.send_data.Statement.{statement}
-use Rattle.segments.proofs.send_data.Tie as tie
+use Rattle.output.proofs.send_data.Statement.{statement}
+use Rattle.output.proofs.send_data.Tie as tie
 
 size-requires : tie.Need-size-requires
 size-requires c κs = search needs
 
 end-flag-requires : tie.Need-end-flag-requires
 end-flag-requires c κs = search needs
-
-add-t13 : tie.Need-add-t13
-add-t13 c = search needs
-
-add-t14 : tie.Need-add-t14
-add-t14 c = search needs
 
 add-m : tie.Need-add-m
 add-m c = search needs
@@ -41,11 +35,11 @@ same-length c = search needs
 
 returns : tie.Need-returns
 returns c =
-    let a = c .before .before .before .before .before .before .before .before .before .args in
-    let z = c .before .before .before .before .before .before .size in
-    let f = c .before .before .before .before .before .end-flag in
+    let a = c .before .before .before .before .before .before .before .before .args in
+    let z = c .before .before .before .before .before .size in
+    let f = c .before .before .before .before .end-flag in
     let y = c .before .before .put-data in
-    sent-data (a .given) (a .ring .now) (a .out .now) (y .last .0) (a .e .epoch) (a .e .number + a .n + 1) (a .from) (a .to) (a .o) (a .o + (32 + z .result) - a .o) (z .result) (f .result)
+    sent-data (a .given) (a .ring .now) (a .out .now) (y .last .0) (a .epoch) (a .number) (a .from) (a .to) (a .o) (a .o + (32 + z .result) - a .o) (z .result) (f .result)
     (z .ensures) (f .ensures) (omega arith) (y .ensures)
 
 pub send-data-spec : {M : Type 1} → statement M
@@ -54,8 +48,6 @@ send-data-spec =
     (tie.spec
     size-requires
     end-flag-requires
-    add-t13
-    add-t14
     add-m
     add-put-data
     sub-put-data

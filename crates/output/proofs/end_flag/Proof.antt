@@ -1,7 +1,7 @@
--- `segments::end_flag` meets its contract. Assumes nothing.
+-- `output::end_flag` meets its contract. Assumes nothing.
 use borrow.Author.Tests.{lt-ltb, le-ltb}
-use Rattle.segments.proofs.end_flag.Statement.{statement}
-use Rattle.segments.proofs.end_flag.Tie as tie
+use Rattle.output.proofs.end_flag.Statement.{statement}
+use Rattle.output.proofs.end_flag.Tie as tie
 
 returns : tie.Need-returns
 returns c = rw (lt-ltb _ _ (c .if1 .taken))

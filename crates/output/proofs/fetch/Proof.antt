@@ -1,10 +1,10 @@
--- `segments::fetch` meets its contract. Assumes nothing.
+-- `output::fetch` meets its contract. Assumes nothing.
 use native.Mathlib.Omega.{arith}
 use Rattle.ring.specs.SpanLaws.{got-span}
 use lib.ListN.{length}
 use borrow.Author.Needs.{needs}
-use Rattle.segments.proofs.fetch.Statement.{statement}
-use Rattle.segments.proofs.fetch.Tie as tie
+use Rattle.output.proofs.fetch.Statement.{statement}
+use Rattle.output.proofs.fetch.Tie as tie
 
 ring-get-requires : tie.Need-ring-get-requires
 ring-get-requires c κs = search needs

@@ -1,4 +1,4 @@
--- `segments::put_data` meets its contract. Assumes nothing.
+-- `output::put_data` meets its contract. Assumes nothing.
 use native.Mathlib.Omega.{arith}
 use Rattle.ring.specs.SpanLaws.{span-length}
 use Rattle.ring.specs.Ring.{span}
@@ -8,8 +8,8 @@ use Rattle.laws.specs.OverLaws.{parts-2}
 use Prim.Native.Nat.{_+_}
 use mathlib.Core.Path.{_∙_}
 use borrow.Author.Needs.{needs}
-use Rattle.segments.proofs.put_data.Statement.{statement}
-use Rattle.segments.proofs.put_data.Tie as tie
+use Rattle.output.proofs.put_data.Statement.{statement}
+use Rattle.output.proofs.put_data.Tie as tie
 
 add-e : tie.Need-add-e
 add-e c = search needs

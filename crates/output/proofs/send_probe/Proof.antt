@@ -1,16 +1,10 @@
--- `segments::send_probe` meets its contract. Assumes nothing.
+-- `output::send_probe` meets its contract. Assumes nothing.
 use native.Mathlib.Omega.{arith}
-use Rattle.segments.proofs.Data.{sent-probe}
+use Rattle.output.proofs.Data.{sent-probe}
 use Prim.Native.Nat.{_+_, _-_}
 use borrow.Author.Needs.{needs}
-use Rattle.segments.proofs.send_probe.Statement.{statement}
-use Rattle.segments.proofs.send_probe.Tie as tie
-
-add-t7 : tie.Need-add-t7
-add-t7 c = search needs
-
-add-t8 : tie.Need-add-t8
-add-t8 c = search needs
+use Rattle.output.proofs.send_probe.Statement.{statement}
+use Rattle.output.proofs.send_probe.Tie as tie
 
 add-write : tie.Need-add-write
 add-write c = search needs
@@ -32,16 +26,14 @@ same-length c = search needs
 
 returns : tie.Need-returns
 returns c =
-    let a = c .before .before .before .before .before .before .args in
+    let a = c .before .before .before .before .before .args in
     let y = c .before .before .write in
-    sent-probe (a .out .now) (y .last .0) (a .e .epoch) (a .e .number + a .n + 1) (a .position) (a .o) (a .o + 32 - a .o) (omega arith) (y .ensures)
+    sent-probe (a .out .now) (y .last .0) (a .epoch) (a .number) (a .position) (a .o) (a .o + 32 - a .o) (omega arith) (y .ensures)
 
 pub send-probe-spec : {M : Type 1} → statement M
 send-probe-spec =
     tie.close
     (tie.spec
-    add-t7
-    add-t8
     add-write
     sub-write
     part-write-start

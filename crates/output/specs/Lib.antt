@@ -1,0 +1,2 @@
+-- What is written at its place in the output.
+pub mod Output
