@@ -1,23 +1,13 @@
-// Every worked example of the documents, computed and written out; `stdout` was written by hand from the documents.
-mod conversation;
-mod datagrams;
+// Every worked example of the documents, computed. The script `stdin` is played to two ends, near and far; `stdout` was written by hand from the documents.
+mod alone;
+mod datagram;
 mod ends;
-mod numbers;
-mod receiver;
-mod refusals;
-mod sender;
+mod play;
+mod script;
 mod show;
 
 fn main() {
-    datagrams::run();
-    show::text(b"\n");
-    numbers::run();
-    show::text(b"\n");
-    conversation::run();
-    show::text(b"\n");
-    receiver::run();
-    show::text(b"\n");
-    sender::run();
-    show::text(b"\n");
-    refusals::run();
+    let mut text = [0u8; 16384];
+    let n = io::read_full(0, &mut text);
+    play::from_zeros(&text[..n]);
 }

@@ -1,10 +1,5 @@
-// Bytes, words and numbers on standard output.
+// Bytes, numbers and answers on standard output, each answer after a space.
 use libc::STDOUT_FILENO;
-
-fn digit(x: u8) -> u8 {
-    let d = x % 16;
-    if d < 10 { 48 + d } else { 87 + d }
-}
 
 pub fn text(s: &[u8]) {
     io::write_all(STDOUT_FILENO, s);
@@ -14,30 +9,55 @@ pub fn number(n: u64) {
     io::print_decimal(STDOUT_FILENO, n);
 }
 
-pub fn pair(b: u8, after: u8) {
-    let p = [digit(b / 16), digit(b % 16), after];
-    io::write_all(STDOUT_FILENO, &p);
+fn digit(x: u8) -> u8 {
+    let d = x % 16;
+    if d < 10 { 48 + d } else { 87 + d }
 }
 
-// A line of bytes, each as two digits.
+fn pair(b: u8) {
+    let p = [b' ', digit(b / 16), digit(b % 16)];
+    text(&p);
+}
+
+// Bytes on a line of their own, each as two digits.
 pub fn line(d: &[u8]) {
+    text(b"\n ");
     let mut i: usize = 0;
     while i < d.len() {
-        if i + 1 < d.len() {
-            pair(d[i], b' ');
-        } else {
-            pair(d[i], b'\n');
-        }
+        pair(d[i]);
         i += 1;
     }
 }
 
-// A refusal number, or ok.
+// A refusal's number, or ok.
 pub fn verdict(r: u64) {
     if r == 0 {
-        text(b"ok\n");
+        text(b" ok");
     } else {
+        text(b" ");
         number(r);
-        text(b"\n");
+    }
+}
+
+// The refusal that an answer stands for, or 14.
+fn refusal(r: i64) -> u64 {
+    let mut n: u64 = 0;
+    while n < 14 {
+        if r == 0 - n as i64 {
+            return n;
+        }
+        n += 1;
+    }
+    n
+}
+
+// What a call answered, at most as many bytes as `most` has.
+pub fn answer(r: i64, most: &[u8]) {
+    if r < 0 {
+        text(b" refused with ");
+        number(refusal(r));
+    } else {
+        text(b" ");
+        number(io::count(r as isize, most) as u64);
     }
 }
