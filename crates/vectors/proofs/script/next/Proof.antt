@@ -7,10 +7,10 @@ use Rattle.vectors.proofs.script.next.Statement.{statement}
 use Rattle.vectors.proofs.script.next.Tie as tie
 
 abbrev Inv-loop : tie.InvT-loop
-Inv-loop text at word i₀ i = (at ≤ i) × (i ≤ length text)
+Inv-loop text at byte i₀ i = (at ≤ i) × (i ≤ length text)
 
 abbrev μ-loop : tie.MeasureT-loop
-μ-loop text at word i₀ i = length text - i
+μ-loop text at byte i₀ i = length text - i
 
 pub next-spec : {M : Type 1} → statement M
 next-spec =
@@ -19,7 +19,8 @@ next-spec =
     Inv-loop
     μ-loop
     (λ c. search needs)
-    (λ c κs. search needs)
+    (λ c. search needs)
+    (λ c. search needs)
     (λ c. search needs)
     (λ c. search needs)
     (λ c. search needs)
