@@ -27,7 +27,7 @@ fn for_end(w: u64, line: &[u8]) -> bool
 {
     let n = bare(line);
     show::text(&line[0..n]);
-    if w == 0 {
+    if n == 0 {
         return false;
     }
     if w == script::COMMENT {
@@ -54,7 +54,7 @@ struct Turn {
     end: usize,
 }
 
-// The turn of a line; of a line for no end the word is 0.
+// The turn of a line; one for no end is answered, and is a comment from here on.
 fn begun(line: &[u8], tables: usize, bytes: usize) -> Turn
     requires { ⌜ 0 < length (now line) ⌝ }
     ensures { λ r. ⌜ (r .at ≤ length (now (line .entry))) × ((r .from ≤ r .to) × ((r .to ≤ tables) × ((r .start ≤ r .end) × (r .end ≤ bytes)))) ⌝ }
@@ -65,7 +65,7 @@ fn begun(line: &[u8], tables: usize, bytes: usize) -> Turn
     let b = bytes / 2;
     if !for_end(w, line) {
         return Turn {
-            word: 0,
+            word: script::COMMENT,
             at: at,
             from: 0,
             to: t,
@@ -113,7 +113,7 @@ fn any_line(
     let t_end = r.to;
     let b = r.start;
     let b_end = r.end;
-    if w == 0 {
+    if w == script::COMMENT {
         return sent;
     }
     ends::line(
