@@ -131,26 +131,11 @@ fn receives(
 }
 
 fn sending(w: u64) -> bool {
-    if w == script::FINISH {
-        return true;
-    }
-    if w == script::GIVE {
-        return true;
-    }
-    if w == script::TICK {
-        return true;
-    }
-    w == script::TICKS
+    w == script::FINISH || w == script::GIVE || w == script::TICK || w == script::TICKS
 }
 
 fn receiving(w: u64) -> bool {
-    if w == script::HEARS {
-        return true;
-    }
-    if w == script::HEAR {
-        return true;
-    }
-    w == script::TAKE
+    w == script::HEARS || w == script::HEAR || w == script::TAKE
 }
 
 // What a line wants of an end: 1 to send, 2 to receive, 3 to open; 0 where it is not understood.

@@ -27,17 +27,11 @@ fn for_end(w: u64, line: &[u8]) -> bool
 {
     let n = bare(line);
     show::text(&line[0..n]);
-    if n == 0 {
-        return false;
-    }
-    if w == script::COMMENT {
+    if n == 0 || w == script::COMMENT {
         return false;
     }
     show::arrow();
-    if w == script::NEAR {
-        return true;
-    }
-    if w == script::FAR {
+    if w == script::NEAR || w == script::FAR {
         return true;
     }
     alone::line(w, line);
