@@ -1,5 +1,6 @@
-// Lines that concern no end: comments; a datagram's form; the window of 01 section 4, and its edge, 03 section 2.
+// Lines for no end: a datagram's form; the window of 01 section 4, and its edge, 03 section 2.
 ghost use Prim.Native.Nat.{_<_};
+ghost use lib.ListN.{length};
 use super::datagram;
 use super::script;
 use super::show;
@@ -25,15 +26,17 @@ fn offer(h: u64, m: &mut [u64; 16], p: u64) -> Offered {
 }
 
 // The numbers of a line, in their order, and what becomes of each.
-fn numbers(line: &[u8]) {
+fn numbers(line: &[u8])
+    requires { ⌜ 0 < length (now line) ⌝ }
+{
     let mut m = [0u64; 16];
     let mut h: u64 = 0;
-    let mut at = script::after(line, b" ");
+    let mut at = script::next(line, 0, b' ');
     while at < line.len() {
         let o = offer(h, &mut m, script::decimal(line, at));
         show::verdict(o.verdict);
         h = o.high;
-        at = script::next(line, at, b" ");
+        at = script::next(line, at, b' ');
     }
 }
 
@@ -55,37 +58,29 @@ fn late(top: u64)
 
 // 32 datagrams in each tick, all of which arrive a tick later but the first, which takes D ticks.
 fn edge(line: &[u8]) {
-    let d = script::size(line, b" D ", 1, 64);
+    let d = script::size(line, script::D, 1, 64);
     if d == 0 {
         return;
     }
     let behind = 32 * d as u64 - 1;
-    show::text(b" ");
-    show::number(behind);
-    show::text(b" behind");
+    show::behind(behind);
     late(behind + 1);
 }
 
-// A line that asks nothing.
-pub fn comment(line: &[u8]) -> bool {
-    if script::begins(line, b"#") {
-        return true;
-    }
-    script::begins(line, b"\n")
-}
-
-pub fn line(line: &[u8]) {
-    if script::begins(line, b"form ") {
+pub fn line(w: u64, line: &[u8])
+    requires { ⌜ 0 < length (now line) ⌝ }
+{
+    if w == script::FORM {
         datagram::form(line);
         return;
     }
-    if script::begins(line, b"numbers ") {
+    if w == script::NUMBERS {
         numbers(line);
         return;
     }
-    if script::begins(line, b"edge ") {
+    if w == script::EDGE {
         edge(line);
         return;
     }
-    show::text(b" what?");
+    show::what();
 }

@@ -1,22 +1,19 @@
 // Datagrams: made from the fields that a line names, and written out.
 ghost use Prim.Native.Nat.{_+_, _≤_};
 ghost use lib.ListN.{length};
-use super::script::field;
-use super::script::least;
-use super::script::letter;
-use super::script::size;
+use super::script;
 use super::show;
 
 // Fields that are not named are 0, but the epoch 7 and the length n.
 fn header(line: &[u8], n: usize) -> wire::Header {
     wire::Header {
-        kind: field(line, b" kind ", 0),
-        flags: field(line, b" flags ", 0),
-        length: field(line, b" length ", n as u64),
-        epoch: field(line, b" epoch ", 7),
-        number: field(line, b" number ", 0),
-        position: field(line, b" position ", 0),
-        credit: field(line, b" credit ", 0),
+        kind: script::field(line, script::KIND, 0),
+        flags: script::field(line, script::FLAGS, 0),
+        length: script::field(line, script::LENGTH, n as u64),
+        epoch: script::field(line, script::EPOCH, 7),
+        number: script::field(line, script::NUMBER, 0),
+        position: script::field(line, script::POSITION, 0),
+        credit: script::field(line, script::CREDIT, 0),
     }
 }
 
@@ -25,42 +22,23 @@ fn made(line: &[u8], d: &mut [u8]) -> usize
     requires { ⌜ 32 ≤ length (now d) ⌝ }
     ensures { λ r. ⌜ r ≤ length (now (d .entry)) ⌝ }
 {
-    let n = size(line, b" bytes ", 0, d.len() - 32);
+    let n = script::size(line, script::BYTES, 0, d.len() - 32);
     wire::write(&mut d[0..32], header(line, n));
-    size(line, b" cut ", 32 + n, d.len())
+    script::size(line, script::CUT, 32 + n, d.len())
 }
 
 // Its form alone.
 pub fn form(line: &[u8]) {
-    let mut d = [letter(line); 2048];
+    let mut d = [script::letter(line); 2048];
     let n = made(line, &mut d);
     show::verdict(wire::form(&d[0..n]));
 }
 
 // An end hears it.
 pub fn hear(line: &[u8], table: &mut [u64], incoming: &mut [u8], marks: &mut [u8]) {
-    let mut d = [letter(line); 2048];
+    let mut d = [script::letter(line); 2048];
     let n = made(line, &mut d);
-    show::answer(
-        endpoint::sluice_datagram(table, incoming, marks, &d[0..n]),
-        b"",
-    );
-}
-
-// The header of the i-th eight bytes, with number i + 1.
-pub fn eighth(d: &mut [u8], i: u64)
-    requires { ⌜ (32 ≤ length (now d)) × (i ≤ 65536) ⌝ }
-{
-    let h = wire::Header {
-        kind: 1,
-        flags: 0,
-        length: 8,
-        epoch: 7,
-        number: i + 1,
-        position: 8 * i,
-        credit: 0,
-    };
-    wire::write(&mut d[0..32], h);
+    show::answer(endpoint::sluice_datagram(table, incoming, marks, &d[0..n]));
 }
 
 // The size of the datagram at `at`, with its payload as far as out has it.
@@ -69,7 +47,7 @@ fn size_at(out: &[u8], at: usize) -> usize
     ensures { λ r. ⌜ (32 ≤ r) × (at + r ≤ length (now (out .entry))) ⌝ }
 {
     let h = wire::fields(&out[at..]);
-    32 + least(h.length as usize, out.len() - at - 32)
+    32 + script::least(h.length as usize, out.len() - at - 32)
 }
 
 // Header and payload of a datagram; of a payload above 16 bytes its size.
@@ -86,9 +64,7 @@ fn one(d: &[u8])
         show::line(&d[32..n]);
         return;
     }
-    show::text(b"\n  ");
-    show::number((n - 32) as u64);
-    show::text(b" bytes");
+    show::bytes(n - 32);
 }
 
 // Every datagram of out, written out; or only counted.
@@ -107,16 +83,16 @@ pub fn all(out: &[u8], shown: bool) -> u64 {
     k
 }
 
-// An end hears every datagram of out.
-pub fn hear_all(out: &[u8], table: &mut [u64], incoming: &mut [u8], marks: &mut [u8]) {
-    let n = out.len();
+// An end hears every datagram of the first bytes of out.
+pub fn hear_all(out: &[u8], sent: usize, table: &mut [u64], incoming: &mut [u8], marks: &mut [u8]) {
+    let n = script::least(sent, out.len());
     let mut at: usize = 0;
     while 32 <= n - at {
         let m = size_at(out, at);
-        show::answer(
-            endpoint::sluice_datagram(table, incoming, marks, &out[at..at + m]),
-            b"",
-        );
+        show::answer(endpoint::sluice_datagram(table, incoming, marks, &out[at..at + m]));
+        if n - at < m {
+            return;
+        }
         at += m;
     }
 }

@@ -7,33 +7,41 @@ use super::show;
 
 // open epoch E R I, with a table of `words W`.
 fn open(line: &[u8], table: &mut [u64], outgoing: &[u8], incoming: &[u8], marks: &mut [u8]) {
-    let epoch = script::field(line, b" epoch ", 7);
-    let interval = script::field(line, b" R ", 0);
-    let n = script::size(line, b" words ", table.len(), table.len());
-    show::answer(
-        endpoint::sluice_open(&mut table[0..n], outgoing, incoming, marks, epoch, interval),
-        b"",
-    );
+    let epoch = script::field(line, script::EPOCH, 7);
+    let interval = script::field(line, script::R, 0);
+    let n = script::size(line, script::WORDS, table.len(), table.len());
+    show::answer(endpoint::sluice_open(
+        &mut table[0..n],
+        outgoing,
+        incoming,
+        marks,
+        epoch,
+        interval,
+    ));
 }
 
 // give N of a byte.
 fn fill(line: &[u8], table: &mut [u64], outgoing: &mut [u8]) {
     let given = [script::letter(line); 66560];
-    let n = script::size(line, b"give ", 0, given.len());
-    show::answer(endpoint::sluice_give(table, outgoing, &given[0..n]), &given);
+    let n = script::size(line, script::GIVE, 0, given.len());
+    show::answer(endpoint::sluice_give(table, outgoing, &given[0..n]));
 }
 
 // give line: what is left of the line, with its newline.
 fn give(line: &[u8], table: &mut [u64], outgoing: &mut [u8]) {
-    let at = script::after(line, b"line ");
-    show::answer(endpoint::sluice_give(table, outgoing, &line[at..]), line);
+    let at = script::after(line, script::LINE);
+    if at < line.len() {
+        show::answer(endpoint::sluice_give(table, outgoing, &line[at..]));
+        return;
+    }
+    fill(line, table, outgoing);
 }
 
 // tick, into `room B` bytes of out. Answers how many bytes were sent.
 fn tick(line: &[u8], table: &mut [u64], outgoing: &[u8], out: &mut [u8]) -> usize {
-    let room = script::size(line, b" room ", out.len(), out.len());
+    let room = script::size(line, script::ROOM, out.len(), out.len());
     let r = endpoint::sluice_tick(table, outgoing, &mut out[0..room]);
-    show::answer(r, out);
+    show::answer(r);
     let n = io::count(r as isize, out);
     datagram::all(&out[..n], true);
     n
@@ -43,14 +51,13 @@ fn tick(line: &[u8], table: &mut [u64], outgoing: &[u8], out: &mut [u8]) -> usiz
 fn counted(table: &mut [u64], outgoing: &[u8], out: &mut [u8]) -> usize {
     let r = endpoint::sluice_tick(table, outgoing, out);
     let n = io::count(r as isize, out);
-    show::text(b" ");
-    show::number(datagram::all(&out[..n], false));
+    show::spaced(datagram::all(&out[..n], false));
     n
 }
 
 // ticks N.
 fn ticks(line: &[u8], table: &mut [u64], outgoing: &[u8], out: &mut [u8]) -> usize {
-    let n = script::size(line, b"ticks ", 0, 1000);
+    let n = script::size(line, script::TICKS, 0, 1000);
     let mut sent: usize = 0;
     let mut i: usize = 0;
     while i < n {
@@ -64,99 +71,91 @@ fn ticks(line: &[u8], table: &mut [u64], outgoing: &[u8], out: &mut [u8]) -> usi
 fn taken(table: &mut [u64], incoming: &[u8], room: &mut [u8]) {
     let mut ended: u8 = 0;
     let r = endpoint::sluice_take(table, incoming, room, &mut ended);
-    show::answer(r, room);
     if r < 0 {
+        show::answer(r);
         return;
     }
-    show::text(b" bytes, ended ");
-    show::number(ended as u64);
-    show::text(b": ");
     let n = io::count(r as isize, room);
-    show::text(&room[..n]);
+    show::taken(&room[..n], ended);
 }
 
-// take N, at most 64.
+// take N.
 fn take(line: &[u8], table: &mut [u64], incoming: &[u8]) {
-    let mut room = [0u8; 64];
-    let n = script::size(line, b"take ", 0, 64);
+    let mut room = [0u8; 65536];
+    let n = script::size(line, script::TAKE, 0, room.len());
     taken(table, incoming, &mut room[0..n]);
 }
 
-// The i-th eight bytes come and are taken. Answers 8 where the right ones are handed up.
-fn eight(table: &mut [u64], incoming: &mut [u8], marks: &mut [u8], i: u64) -> u64
-    requires { ⌜ i ≤ 65536 ⌝ }
-    ensures { λ r. ⌜ r ≤ 8 ⌝ }
-{
-    let b = (i % 251) as u8;
-    let mut d = [b; 40];
-    let mut room = [0u8; 8];
-    let mut ended: u8 = 0;
-    datagram::eighth(&mut d, i);
-    endpoint::sluice_datagram(table, incoming, marks, &d);
-    endpoint::sluice_take(table, incoming, &mut room, &mut ended);
-    if room[0] == b { 8 } else { 0 }
-}
-
-// round N: so many times eight bytes, to a fresh end.
-fn round(line: &[u8], table: &mut [u64], incoming: &mut [u8], marks: &mut [u8]) {
-    let n = script::size(line, b"round ", 0, 65536) as u64;
-    let mut right: u64 = 0;
-    let mut i: u64 = 0;
-    while i < n {
-        right += eight(table, incoming, marks, i);
-        i += 1;
+// Lines for the sending side.
+fn sends(
+    w: u64,
+    line: &[u8],
+    table: &mut [u64],
+    outgoing: &mut [u8],
+    out: &mut [u8],
+    sent: usize,
+) -> usize {
+    if w == script::TICKS {
+        return ticks(line, table, outgoing, out);
     }
-    show::text(b" ");
-    show::number(right);
-    show::text(b" bytes handed up in order");
-}
-
-// Lines on the sending side alone. Answers whether the line is one.
-fn sends(line: &[u8], table: &mut [u64], outgoing: &mut [u8]) -> bool {
-    if script::begins(line, b"give line ") {
+    if w == script::TICK {
+        return tick(line, table, outgoing, out);
+    }
+    if w == script::GIVE {
         give(line, table, outgoing);
-        return true;
+        return sent;
     }
-    if script::begins(line, b"give ") {
-        fill(line, table, outgoing);
-        return true;
-    }
-    if script::begins(line, b"finish") {
-        show::answer(endpoint::sluice_finish(table), b"");
-        return true;
-    }
-    false
+    show::answer(endpoint::sluice_finish(table));
+    sent
 }
 
-// Lines on the receiving side alone; sent are the bytes of the last tick. Answers whether the line is one.
+// Lines for the receiving side.
 fn receives(
+    w: u64,
     line: &[u8],
     table: &mut [u64],
     incoming: &mut [u8],
     marks: &mut [u8],
-    sent: &[u8],
-) -> bool {
-    if script::begins(line, b"hears") {
-        datagram::hear_all(sent, table, incoming, marks);
-        return true;
+    out: &[u8],
+    sent: usize,
+) {
+    if w == script::HEARS {
+        datagram::hear_all(out, sent, table, incoming, marks);
+        return;
     }
-    if script::begins(line, b"hear ") {
+    if w == script::HEAR {
         datagram::hear(line, table, incoming, marks);
-        return true;
+        return;
     }
-    if script::begins(line, b"take ") {
-        take(line, table, incoming);
-        return true;
-    }
-    if script::begins(line, b"round ") {
-        round(line, table, incoming, marks);
-        return true;
-    }
-    false
+    take(line, table, incoming);
 }
 
-// Any line for one end. sent is how many bytes of out the last tick has sent, and so is the answer.
+fn sending(w: u64) -> bool {
+    w == script::FINISH || w == script::GIVE || w == script::TICK || w == script::TICKS
+}
+
+fn receiving(w: u64) -> bool {
+    w == script::HEARS || w == script::HEAR || w == script::TAKE
+}
+
+// What a line wants of an end: 1 to send, 2 to receive, 3 to open; 0 where it is not understood.
+fn wanted(w: u64) -> u64 {
+    if sending(w) {
+        return 1;
+    }
+    if receiving(w) {
+        return 2;
+    }
+    if w == script::OPEN {
+        return 3;
+    }
+    show::what();
+    0
+}
+
+// Any line for an end. sent is how many bytes of out the last tick has sent, and so is the answer.
 pub fn line(
+    w: u64,
     line: &[u8],
     table: &mut [u64],
     outgoing: &mut [u8],
@@ -165,23 +164,16 @@ pub fn line(
     out: &mut [u8],
     sent: usize,
 ) -> usize {
-    if script::begins(line, b"ticks ") {
-        return ticks(line, table, outgoing, out);
+    let what = wanted(w);
+    if what == 1 {
+        return sends(w, line, table, outgoing, out, sent);
     }
-    if script::begins(line, b"tick") {
-        return tick(line, table, outgoing, out);
+    if what == 2 {
+        receives(w, line, table, incoming, marks, out, sent);
+        return sent;
     }
-    if script::begins(line, b"open ") {
+    if what == 3 {
         open(line, table, outgoing, incoming, marks);
-        return sent;
     }
-    if sends(line, table, outgoing) {
-        return sent;
-    }
-    let n = script::least(sent, out.len());
-    if receives(line, table, incoming, marks, &out[0..n]) {
-        return sent;
-    }
-    show::text(b" what?");
     sent
 }

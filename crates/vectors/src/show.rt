@@ -1,4 +1,5 @@
 // Bytes, numbers and answers on standard output, each answer after a space.
+ghost use Prim.Native.Nat.{_≤_};
 use libc::STDOUT_FILENO;
 
 pub fn text(s: &[u8]) {
@@ -29,13 +30,76 @@ pub fn line(d: &[u8]) {
     }
 }
 
+// Their number, on a line of its own.
+pub fn bytes(n: usize) {
+    text(b"\n  ");
+    number(n as u64);
+    text(b" bytes");
+}
+
+// A number after a space.
+pub fn spaced(n: u64) {
+    text(b" ");
+    number(n);
+}
+
+pub fn behind(n: u64) {
+    spaced(n);
+    text(b" behind");
+}
+
+pub fn arrow() {
+    text(b" ->");
+}
+
+pub fn newline() {
+    text(b"\n");
+}
+
+pub fn what() {
+    text(b" what?");
+}
+
+fn same(d: &[u8], b: u8) -> bool {
+    let mut i: usize = 0;
+    while i < d.len() {
+        if d[i] != b {
+            return false;
+        }
+        i += 1;
+    }
+    true
+}
+
+// The bytes taken; of more than 64 only whether they are all the same.
+fn some(d: &[u8]) {
+    if d.len() <= 64 {
+        text(d);
+        return;
+    }
+    if same(d, d[0]) {
+        text(b"all ");
+        text(&d[0..1]);
+        return;
+    }
+    text(b"not all the same");
+}
+
+// How many bytes were taken, whether the END has been reached, and the bytes.
+pub fn taken(d: &[u8], ended: u8) {
+    spaced(d.len() as u64);
+    text(b" bytes, ended ");
+    number(ended as u64);
+    text(b": ");
+    some(d);
+}
+
 // A refusal's number, or ok.
 pub fn verdict(r: u64) {
     if r == 0 {
         text(b" ok");
     } else {
-        text(b" ");
-        number(r);
+        spaced(r);
     }
 }
 
@@ -51,13 +115,26 @@ fn refusal(r: i64) -> u64 {
     n
 }
 
-// What a call answered, at most as many bytes as `most` has.
-pub fn answer(r: i64, most: &[u8]) {
+// The number of bytes that an answer from 0 on stands for, at most 65,536.
+fn count(r: i64) -> usize
+    ensures { λ n. ⌜ n ≤ 65536 ⌝ }
+{
+    let mut n: usize = 0;
+    while n < 65536 {
+        if r == n as i64 {
+            return n;
+        }
+        n += 1;
+    }
+    n
+}
+
+// What a call answered.
+pub fn answer(r: i64) {
     if r < 0 {
         text(b" refused with ");
         number(refusal(r));
-    } else {
-        text(b" ");
-        number(io::count(r as isize, most) as u64);
+        return;
     }
+    spaced(count(r) as u64);
 }

@@ -7,25 +7,14 @@ use Rattle.vectors.proofs.alone.numbers.Statement.{statement}
 use Rattle.vectors.proofs.alone.numbers.Tie as tie
 
 abbrev Inv-loop : tie.InvT-loop
-Inv-loop line m₀ h₀ at₀ t7 m h at = at ≤ length line
+Inv-loop line m₀ h₀ at₀ m h at = at ≤ length line
 
 abbrev μ-loop : tie.MeasureT-loop
-μ-loop line m₀ h₀ at₀ t7 m h at = length line - at
+μ-loop line m₀ h₀ at₀ m h at = length line - at
 
 pub numbers-spec : {M : Type 1} → statement M
 numbers-spec =
     tie.close
     (tie.spec
-    Inv-loop
-    μ-loop
-    (λ c. search needs)
-    (λ c κs. search needs)
-    (λ c. search needs)
-    (λ c κs. search needs)
-    (λ c κs. search needs)
-    (λ c κs. search needs)
-    (λ c. search needs)
-    (λ c κs. search needs)
-    (λ c. search needs)
-    (λ c. search needs)
-    (λ c. search needs))
+    Inv-loop μ-loop (λ c κs. search needs) (λ c. search needs) (λ c κs. search needs) (λ c κs. search needs)
+    (λ c κs. search needs) (λ c κs. search needs) (λ c. search needs) (λ c. search needs) (λ c. search needs))

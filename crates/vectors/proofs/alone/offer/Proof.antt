@@ -11,7 +11,4 @@ pub offer-spec : {M : Type 1} → statement M
 offer-spec =
     tie.close
     (tie.spec
-    (λ c κs. search needs)
-    (λ c. search needs)
-    accept-requires
-    (λ c. search needs))
+    (λ c κs. search needs) (λ c. search needs) accept-requires (λ c. search needs))

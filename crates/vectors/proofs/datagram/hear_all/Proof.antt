@@ -7,31 +7,17 @@ use Rattle.vectors.proofs.datagram.hear_all.Statement.{statement}
 use Rattle.vectors.proofs.datagram.hear_all.Tie as tie
 
 abbrev Inv-loop : tie.InvT-loop
-Inv-loop out table₀ incoming₀ marks₀ n at₀ t8 table incoming marks at = (n ≡ length out) × ((at ≤ n) × ((length table ≡ length table₀) × ((length incoming ≡ length incoming₀) × (length marks ≡ length marks₀))))
+Inv-loop out sent table₀ incoming₀ marks₀ n at₀ table incoming marks at = (n ≤ length out) × ((at ≤ n) × ((length table ≡ length table₀) × ((length incoming ≡ length incoming₀) × (length marks ≡ length marks₀))))
 
 abbrev μ-loop : tie.MeasureT-loop
-μ-loop out table₀ incoming₀ marks₀ n at₀ t8 table incoming marks at = n - at
+μ-loop out sent table₀ incoming₀ marks₀ n at₀ table incoming marks at = n - at
 
 pub hear-all-spec : {M : Type 1} → statement M
 hear-all-spec =
     tie.close
     (tie.spec
-    Inv-loop
-    μ-loop
-    (λ c. search needs)
-    (λ c. search needs)
-    (λ c κs. search needs)
-    (λ c. search needs)
-    (λ c. search needs)
-    (λ c. search needs)
-    (λ c. search needs)
-    (λ c κs. search needs)
-    (λ c. search needs)
-    (λ c κs. search needs)
-    (λ c. search needs)
-    (λ c. search needs)
-    (λ c. search needs)
-    (λ c. search needs)
-    (λ c. search needs)
-    (λ c. search needs)
-    (λ c. search needs))
+    Inv-loop μ-loop (λ c κs. search needs) (λ c. search needs) (λ c. search needs) (λ c κs. search needs)
+    (λ c. search needs) (λ c. search needs) (λ c. search needs) (λ c. search needs) (λ c κs. search needs)
+    (λ c κs. search needs) (λ c. search needs) (λ c. search needs) (λ c. search needs) (λ c. search needs)
+    (λ c. search needs) (λ c. search needs) (λ c. search needs) (λ c. search needs) (λ c. search needs)
+    (λ c. search needs) (λ c. search needs) (λ c. search needs))

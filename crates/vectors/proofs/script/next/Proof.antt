@@ -7,21 +7,14 @@ use Rattle.vectors.proofs.script.next.Statement.{statement}
 use Rattle.vectors.proofs.script.next.Tie as tie
 
 abbrev Inv-loop : tie.InvT-loop
-Inv-loop text at word i₀ i = (at ≤ i) × (i ≤ length text)
+Inv-loop text at byte i₀ i = (at ≤ i) × (i ≤ length text)
 
 abbrev μ-loop : tie.MeasureT-loop
-μ-loop text at word i₀ i = length text - i
+μ-loop text at byte i₀ i = length text - i
 
 pub next-spec : {M : Type 1} → statement M
 next-spec =
     tie.close
     (tie.spec
-    Inv-loop
-    μ-loop
-    (λ c. search needs)
-    (λ c κs. search needs)
-    (λ c. search needs)
-    (λ c. search needs)
-    (λ c. search needs)
-    (λ c. search needs)
-    (λ c. search needs))
+    Inv-loop μ-loop (λ c. search needs) (λ c. search needs) (λ c. search needs) (λ c. search needs) (λ c. search needs)
+    (λ c. search needs) (λ c. search needs) (λ c. search needs))

@@ -1,0 +1,20 @@
+-- `vectors::show::count` meets its contract. Assumes nothing.
+use borrow.Author.Needs.{needs}
+use mathlib.Core.Path.{_≡_}
+use Prim.Native.Nat.{_+_, _*_, _-_, _≤_, _<_}
+use lib.ListN.{length}
+use Rattle.vectors.proofs.show.count.Statement.{statement}
+use Rattle.vectors.proofs.show.count.Tie as tie
+
+abbrev Inv-loop : tie.InvT-loop
+Inv-loop r n₀ n = n ≤ 65536
+
+abbrev μ-loop : tie.MeasureT-loop
+μ-loop r n₀ n = 65536 - n
+
+pub count-spec : {M : Type 1} → statement M
+count-spec =
+    tie.close
+    (tie.spec
+    Inv-loop μ-loop (λ c. search needs) (λ c. search needs) (λ c. search needs) (λ c. search needs) (λ c. search needs)
+    (λ c. search needs) (λ c. search needs))
