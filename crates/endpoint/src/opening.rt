@@ -49,7 +49,7 @@ pub fn open_end(t: &mut [u64], marks: &mut [u8], epoch: u64, interval: u64)
     ensures { λ _. ⌜ Opened (now (t .entry)) (now (marks .entry)) epoch interval (now (t .exit)) (now (marks .exit)) ⌝ }
 {
     let k = ring::size();
-    let v = receiving::start(&mut marks[0..k]);
+    let v = filling::start(&mut marks[0..k]);
     let c = Common {
         opened: 1,
         epoch: epoch,

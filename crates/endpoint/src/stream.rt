@@ -60,7 +60,7 @@ pub fn take(t: &mut [u64], incoming: &[u8], out: &mut [u8]) -> Scalars
 {
     let s = scalars_in(t);
     let k = ring::size();
-    let v = receiving::take(&incoming[0..k], s, out);
+    let v = filling::take(&incoming[0..k], s, out);
     save_scalars(&mut t[15..20], v);
     v
 }

@@ -92,7 +92,7 @@ fn data(t: &mut [u64], incoming: &mut [u8], marks: &mut [u8], d: &[u8], h: Heade
 {
     let s = scalars_in(t);
     let k = ring::size();
-    let v = receiving::hear(
+    let v = filling::hear(
         &mut incoming[0..k],
         &mut marks[0..k],
         s,

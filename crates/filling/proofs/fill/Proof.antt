@@ -1,8 +1,8 @@
--- `receiving::fill` meets its contract. Assumes nothing.
+-- `filling::fill` meets its contract. Assumes nothing.
 use borrow.Author.Needs.{needs}
-use Rattle.receiving.proofs.FillLaws.{none-fills, old-fills}
-use Rattle.receiving.proofs.fill.Statement.{statement}
-use Rattle.receiving.proofs.fill.Tie as tie
+use Rattle.filling.proofs.FillLaws.{none-fills, old-fills}
+use Rattle.filling.proofs.fill.Statement.{statement}
+use Rattle.filling.proofs.fill.Tie as tie
 
 returns : tie.Need-returns
 returns c = search (needs, none-fills)

@@ -1,10 +1,10 @@
--- `receiving::in_order` meets its contract. Assumes nothing.
+-- `filling::in_order` meets its contract. Assumes nothing.
 use mathlib.Core.Path.{_≡_}
 use native.Mathlib.Omega.{arith}
 use borrow.Author.Needs.{needs}
-use Rattle.receiving.proofs.FillLaws.{fast-fills, unmarked-zero}
-use Rattle.receiving.proofs.in_order.Statement.{statement}
-use Rattle.receiving.proofs.in_order.Tie as tie
+use Rattle.filling.proofs.FillLaws.{fast-fills, unmarked-zero}
+use Rattle.filling.proofs.in_order.Statement.{statement}
+use Rattle.filling.proofs.in_order.Tie as tie
 
 add-e : tie.Need-add-e
 add-e c = search needs

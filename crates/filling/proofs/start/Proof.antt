@@ -1,8 +1,8 @@
--- `receiving::start` meets its contract. Assumes nothing.
+-- `filling::start` meets its contract. Assumes nothing.
 use borrow.Author.Needs.{needs}
-use Rattle.receiving.proofs.TakeLaws.{starts}
-use Rattle.receiving.proofs.start.Statement.{statement}
-use Rattle.receiving.proofs.start.Tie as tie
+use Rattle.filling.proofs.TakeLaws.{starts}
+use Rattle.filling.proofs.start.Statement.{statement}
+use Rattle.filling.proofs.start.Tie as tie
 
 fill-requires : tie.Need-fill-requires
 fill-requires c κs = search needs

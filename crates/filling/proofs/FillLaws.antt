@@ -10,13 +10,13 @@ use mathlib.Core.Bool.{true, false}
 use borrow.Author.Tests.{eq-eqb, ne-eqb}
 use Rattle.wire.specs.Datagram.{ceiling}
 use Rattle.ring.specs.Ring.{capacity}
 use Rattle.receiving.specs.Receiving.{Receiving, at, fillCells, fillOf, hearOf, endOf, cellsOf, Ranged, Sound, receivingOf}
 use Rattle.arrivals.specs.Marks.{of, mark}
 use Rattle.arrivals.specs.Steps.{Written, Stored, Placed, Advanced, Unmarked}
 use Rattle.receiving.specs.Calls.{New, Fills, Hears}
-use Rattle.receiving.proofs.FillingLaws.{filling-cells, lays-filling, moves-cells, order-filling, old-filling, none-filling, after-clear, after-beyond, after-top, follow-clear, follow-beyond, follow-top}
+use Rattle.filling.proofs.FillingLaws.{filling-cells, lays-filling, moves-cells, order-filling, old-filling, none-filling, after-clear, after-beyond, after-top, follow-clear, follow-beyond, follow-top}
 use Rattle.laws.specs.Split.{split}
 use Rattle.receiving.specs.declared.Scalars.{Scalars}
 
 -- from cells to the whole
 filled-read : (r m bs r′ m′ : List ℕ) (s : Scalars) (p low high : ℕ) → cellsOf (of r′) (mark m′) (s .taken) low ≡ fillCells (s .taken) (cellsOf (of r) (mark m) (s .taken) (s .low)) p bs

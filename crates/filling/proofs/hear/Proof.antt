@@ -1,8 +1,8 @@
--- `receiving::hear` meets its contract. Assumes nothing.
+-- `filling::hear` meets its contract. Assumes nothing.
 use borrow.Author.Needs.{needs}
-use Rattle.receiving.proofs.FillLaws.{hears-end, hears-none}
-use Rattle.receiving.proofs.hear.Statement.{statement}
-use Rattle.receiving.proofs.hear.Tie as tie
+use Rattle.filling.proofs.FillLaws.{hears-end, hears-none}
+use Rattle.filling.proofs.hear.Statement.{statement}
+use Rattle.filling.proofs.hear.Tie as tie
 
 fill-requires : tie.Need-fill-requires
 fill-requires c κs = search needs

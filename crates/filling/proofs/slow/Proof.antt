@@ -1,8 +1,8 @@
--- `receiving::slow` meets its contract. Assumes nothing.
-use Rattle.receiving.proofs.FillLaws.{slow-fills}
+-- `filling::slow` meets its contract. Assumes nothing.
+use Rattle.filling.proofs.FillLaws.{slow-fills}
 use borrow.Author.Needs.{needs}
-use Rattle.receiving.proofs.slow.Statement.{statement}
-use Rattle.receiving.proofs.slow.Tie as tie
+use Rattle.filling.proofs.slow.Statement.{statement}
+use Rattle.filling.proofs.slow.Tie as tie
 
 add-most : tie.Need-add-most
 add-most c = search needs

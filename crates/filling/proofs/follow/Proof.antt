@@ -1,8 +1,8 @@
--- `receiving::follow` meets its contract. Assumes nothing.
+-- `filling::follow` meets its contract. Assumes nothing.
 use borrow.Author.Needs.{needs}
-use Rattle.receiving.proofs.FillLaws.{follow-fills}
-use Rattle.receiving.proofs.follow.Statement.{statement}
-use Rattle.receiving.proofs.follow.Tie as tie
+use Rattle.filling.proofs.FillLaws.{follow-fills}
+use Rattle.filling.proofs.follow.Statement.{statement}
+use Rattle.filling.proofs.follow.Tie as tie
 
 add-e : tie.Need-add-e
 add-e c = search needs

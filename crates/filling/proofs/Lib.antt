@@ -1,0 +1,4 @@
+-- What the proofs of several functions share.
+mod FillingLaws
+mod FillLaws
+mod TakeLaws
