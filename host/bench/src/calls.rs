@@ -1,7 +1,9 @@
 //! Single calls: what an end is brought to, and the calls that are then measured in a row.
 
+use std::cell::RefCell;
+
 use drill::machine::Machine;
-use yardstick::{HEADER, Header, Kind, PAYLOAD};
+use yardstick::{HEADER, Header, Kind, PAYLOAD, RING};
 
 const EPOCH: u64 = 7;
 /// Segments that a ring holds, and that are kept at most.
@@ -31,6 +33,11 @@ enum Calls {
         sends: usize,
     },
     Datagrams(Vec<Vec<u8>>),
+    /// All of these bytes are given.
+    Give(Vec<u8>),
+    Finish,
+    /// As many bytes as there is room for are taken.
+    Take(RefCell<Vec<u8>>),
 }
 
 impl Case {
@@ -39,6 +46,7 @@ impl Case {
         match &self.calls {
             Calls::Ticks { count, .. } => *count,
             Calls::Datagrams(datagrams) => datagrams.len(),
+            Calls::Give(_) | Calls::Finish | Calls::Take(_) => 1,
         }
     }
 
@@ -58,6 +66,12 @@ impl Case {
         let right = match &self.calls {
             Calls::Ticks { count, sends } => (0..*count).all(|_| end.tick().count() == *sends),
             Calls::Datagrams(datagrams) => datagrams.iter().all(|datagram| end.datagram(datagram).is_ok()),
+            Calls::Give(bytes) => end.give(bytes) == bytes.len(),
+            Calls::Finish => {
+                end.finish();
+                true
+            }
+            Calls::Take(room) => end.take(&mut room.borrow_mut()) == (RING, false),
         };
         if right { Ok(()) } else { Err(format!("{}: {} does something else", self.name, M::NAME)) }
     }
@@ -90,19 +104,29 @@ fn data(name: &'static str, before: impl Iterator<Item = u64>, now: impl Iterato
     Case { name, interval: NEVER, given: 0, ticks: 0, before, calls }
 }
 
+/// One call of an end to which these DATA came.
+fn once(name: &'static str, before: impl Iterator<Item = u64>, calls: Calls) -> Case {
+    Case { name, interval: NEVER, given: 0, ticks: 0, before: row(Kind::Data, 0, before), calls }
+}
+
 /// Every row of calls.
 pub fn all() -> Vec<Case> {
     let acks = Calls::Datagrams(row(Kind::Ack, 0, 1..=SEGMENTS));
     let none = || 0..0;
     vec![
+        once("give-65536", none(), Calls::Give(vec![0xa5; RING])),
+        once("take-65536", 0..SEGMENTS, Calls::Take(RefCell::new(vec![0; RING]))),
+        once("finish", none(), Calls::Finish),
         ticks("tick-idle", NEVER, 0, 0),
         ticks("tick-64-kept", NEVER, SEGMENTS, 0),
         ticks("tick-sends-one", 1, 1, 1),
+        ticks("tick-sends-32", 1, SEGMENTS, 32),
         Case { name: "ack-drops-one", interval: NEVER, given: SEGMENTS, ticks: 2, before: Vec::new(), calls: acks },
         data("data-in-order", none(), 0..SEGMENTS),
         data("data-beyond-hole", none(), 1..SEGMENTS),
         data("data-closes-hole", (1..SEGMENTS).step_by(2), (0..SEGMENTS).step_by(2)),
         data("data-frees-63", 1..SEGMENTS, 0..1),
+        once("data-frees-63-jump", 1..SEGMENTS, Calls::Datagrams(vec![datagram(Kind::Data, 5_000, 0)])),
         data("data-again-low", 0..SEGMENTS, 0..SEGMENTS),
         data("data-again-beyond", 1..SEGMENTS, 1..SEGMENTS),
     ]
