@@ -3,13 +3,8 @@ use Prim.Native.Nat.{ℕ, _+_, _-_, _≤_, _<_, max}
 use mathlib.Core.Path.{_≡_}
 use mathlib.Core.List.{List}
 use lib.ListN.{length, getD}
-use Rattle.ring.specs.Ring.{capacity}
+pub use Rattle.marks.specs.Stretches.{Same, Runs, Unmarked}
 use Rattle.arrivals.specs.Marks.{of, mark}
-
--- f′ is f at positions outside a .. b - 1, less than one turn away
-pub record Same (f : ℕ → ℕ) (a b : ℕ) (f′ : ℕ → ℕ) : Type 0 where
-  pub below : (q : ℕ) → q < a → b ≤ q + capacity → f′ q ≡ f q
-  pub above : (q : ℕ) → b ≤ q → q < a + capacity → f′ q ≡ f q
 
 -- bytes f and marks g, by position: in a .. b - 1, where there was no mark, the byte of bs, which starts at p; where there was one, as it was; then all are marked
 pub record Lays (f g : ℕ → ℕ) (p : ℕ) (bs : List ℕ) (a b : ℕ) (f′ g′ : ℕ → ℕ) : Type 0 where
@@ -56,18 +51,7 @@ pub record Placed (r m : List ℕ) (p : ℕ) (bs : List ℕ) (low high : ℕ) (r
   pub marks-same : length m′ ≡ length m
   pub stored : ((q : ℕ) → high ≤ q → q < p + length bs → mark m q ≡ 0) → Stored r m p bs (max p low) (p + length bs) r′ m′
 
--- l is the first position from low on without a mark, or top
-pub record Runs (m : List ℕ) (low top l : ℕ) : Type 0 where
-  pub low-l : low ≤ l
-  pub l-top : l ≤ top
-  pub marked : (q : ℕ) → low ≤ q → q < l → 0 < mark m q
-  pub stop : l < top → mark m l ≡ 0
-
 -- Moves, for marks
 pub record Advanced (m : List ℕ) (low top : ℕ) (m′ : List ℕ) (l : ℕ) : Type 0 where
   pub marks-same : length m′ ≡ length m
   pub moves : Moves (mark m) low top (mark m′) l
-
--- r is 0 only where no position of a .. b - 1 has a mark
-pub record Unmarked (m : List ℕ) (a b r : ℕ) : Type 0 where
-  pub none : r ≡ 0 → (q : ℕ) → a ≤ q → q < b → mark m q ≡ 0

@@ -1,10 +1,10 @@
 // 01 section 5: what has arrived, laid into a ring of bytes and a ring of marks, position by position.
 ghost use mathlib.Core.Path.{_≡_};
-ghost use Prim.Native.Nat.{_+_, _≤_, min, max};
+ghost use Prim.Native.Nat.{_+_, _≤_, _<_, min, max};
 ghost use lib.ListN.{length};
 ghost use Rattle.wire.specs.Datagram.{ceiling};
 ghost use Rattle.ring.specs.Ring.{capacity};
-ghost use Rattle.arrivals.specs.Steps.{Written, Stored, Laid, Placed, Runs, Advanced, Unmarked};
+ghost use Rattle.arrivals.specs.Steps.{Written, Stored, Laid, Placed, Advanced, Unmarked};
 
 // The lower of two numbers.
 pub fn least(a: u64, b: u64) -> u64
@@ -31,7 +31,22 @@ pub fn write(ring: &mut [u8], p: u64, src: &[u8], a: u64)
     ring::ring_put(ring, a, &src[k..]);
 }
 
-// Position by position, from a to b - 1: a byte of src goes where there is no mark.
+// The byte of src, which starts at position p, for the position q: it goes where there is no mark.
+fn store_one(ring: &mut [u8], marks: &mut [u8], p: u64, src: &[u8], q: u64)
+    requires { ⌜ (length (now ring) ≡ capacity) × (length (now marks) ≡ capacity) ⌝ }
+    requires { ⌜ (p ≤ q) × (q < p + length (now src)) ⌝ }
+    ensures { λ _. ⌜ Stored (now (ring .entry)) (now (marks .entry)) p (now (src .entry)) q (q + 1) (now (ring .exit)) (now (marks .exit)) ⌝ }
+{
+    if marks::test(marks, q) != 0 {
+        return;
+    }
+    let j = ring::index(q);
+    let k = (q - p) as usize;
+    ring[j] = src[k];
+    marks::put(marks, q, 1);
+}
+
+// Position by position, from a to b - 1.
 fn store(ring: &mut [u8], marks: &mut [u8], p: u64, src: &[u8], a: u64, b: u64)
     requires { ⌜ (length (now ring) ≡ capacity) × (length (now marks) ≡ capacity) ⌝ }
     requires { ⌜ ((p ≤ a) × (a ≤ b)) × ((b ≤ p + length (now src)) × (b ≤ a + capacity)) ⌝ }
@@ -39,30 +54,9 @@ fn store(ring: &mut [u8], marks: &mut [u8], p: u64, src: &[u8], a: u64, b: u64)
 {
     let mut q = a;
     while q < b {
-        let j = ring::index(q);
-        if marks[j] == 0 {
-            let k = (q - p) as usize;
-            ring[j] = src[k];
-            marks[j] = 1;
-        }
+        store_one(ring, marks, p, src, q);
         q += 1;
     }
-}
-
-// The first position from low on without a mark, or top: no mark from top on is read.
-fn run(marks: &[u8], low: u64, top: u64) -> u64
-    requires { ⌜ length (now marks) ≡ capacity ⌝ }
-    requires { ⌜ ((low ≤ top) × (top ≤ low + capacity)) × (top ≤ ceiling) ⌝ }
-    ensures { λ r. ⌜ Runs (now (marks .entry)) low top r ⌝ }
-{
-    let n = (top - low) as usize;
-    let at = ring::index(low);
-    let k = ring::before_seam(at, n);
-    let z = copies::first_zero(&marks[at..at + k], 0);
-    if z < k {
-        return low + z as u64;
-    }
-    low + k as u64 + copies::first_zero(&marks[0..n - k], 0) as u64
 }
 
 // Passes and clears marks from low on, up to the first position without one, or top.
@@ -71,25 +65,26 @@ pub fn advance(marks: &mut [u8], low: u64, top: u64) -> u64
     requires { ⌜ ((low ≤ top) × (top ≤ low + capacity)) × (top ≤ ceiling) ⌝ }
     ensures { λ r. ⌜ Advanced (now (marks .entry)) low top (now (marks .exit)) r ⌝ }
 {
-    let l = run(marks, low, top);
-    ring::ring_fill(marks, low, (l - low) as usize, 0);
+    let l = marks::run(marks, low, top);
+    marks::put_all(marks, low, l, 0);
     l
 }
 
-// Positions a to the end of src, which starts at p: from edge on nothing has arrived.
+// Positions a to the end of src, which starts at p: from edge on nothing has arrived. Below it what has arrived is passed at once up to the first position that is missing.
 fn lay(ring: &mut [u8], marks: &mut [u8], p: u64, src: &[u8], a: u64, edge: u64)
     requires { ⌜ (length (now ring) ≡ capacity) × (length (now marks) ≡ capacity) ⌝ }
     requires { ⌜ ((p ≤ a) × (a ≤ edge)) × ((edge ≤ p + length (now src)) × (p + length (now src) ≤ a + capacity)) ⌝ }
     requires { ⌜ (length (now src) ≤ capacity) × (p + length (now src) ≤ ceiling) ⌝ }
     ensures { λ _. ⌜ Laid (now (ring .entry)) (now (marks .entry)) p (now (src .entry)) a edge (p + length (now (src .entry))) (now (ring .exit)) (now (marks .exit)) ⌝ }
 {
-    let n = (p + src.len() as u64 - edge) as usize;
+    let end = p + src.len() as u64;
+    let l = marks::run(marks, a, edge);
+    store(ring, marks, p, src, l, edge);
     write(ring, p, src, edge);
-    ring::ring_fill(marks, edge, n, 1);
-    store(ring, marks, p, src, a, edge);
+    marks::put_all(marks, edge, end, 1);
 }
 
-// Every byte of src at low or above goes where it is missing: straight from high on, byte by byte below.
+// Every byte of src at low or above goes where it is missing: straight from high on, or where none of them has arrived; else byte by byte.
 pub fn place(ring: &mut [u8], marks: &mut [u8], p: u64, src: &[u8], low: u64, high: u64)
     requires { ⌜ (length (now ring) ≡ capacity) × (length (now marks) ≡ capacity) ⌝ }
     requires { ⌜ (low ≤ p + length (now src)) × (p + length (now src) ≤ low + capacity) ⌝ }
@@ -99,6 +94,10 @@ pub fn place(ring: &mut [u8], marks: &mut [u8], p: u64, src: &[u8], low: u64, hi
     let a = most(p, low);
     let h = most(a, high);
     let edge = least(h, p + src.len() as u64);
+    if marks::any(marks, a, edge) == 0 {
+        lay(ring, marks, p, src, a, a);
+        return;
+    }
     lay(ring, marks, p, src, a, edge);
 }
 
@@ -108,11 +107,5 @@ pub fn marked(marks: &[u8], a: u64, b: u64) -> u8
     requires { ⌜ (a ≤ b) × (b ≤ a + capacity) ⌝ }
     ensures { λ r. ⌜ Unmarked (now (marks .entry)) a b r ⌝ }
 {
-    let n = (b - a) as usize;
-    let at = ring::index(a);
-    let k = ring::before_seam(at, n);
-    if copies::nonzero(&marks[at..at + k]) != 0 {
-        return 1;
-    }
-    copies::nonzero(&marks[0..n - k])
+    marks::any(marks, a, b)
 }

@@ -1,4 +1,4 @@
--- The first 0 of a buffer, and a buffer of nothing but 0.
+-- The first byte of a buffer that is not v, and a buffer of nothing but 0.
 use mathlib.Core.Path.{_≡_}
 use mathlib.Core.List.{List}
 use Prim.Native.Nat.{ℕ, _<_, _≤_}
@@ -11,12 +11,12 @@ copied = 128
 abbrev pub searched : ℕ
 searched = 64
 
--- r is the index of the first 0 of m from index a on, or m's length where there is none
-pub record Zero (m : List ℕ) (a r : ℕ) : Type 0 where
+-- r is the index of the first byte of m from index a on that is not v, or m's length where there is none
+pub record Other (m : List ℕ) (v a r : ℕ) : Type 0 where
   pub low : a ≤ r
   pub high : r ≤ length m
-  pub before : (k : ℕ) → k < r → a ≤ k → getD m k 0 ≡ 0 → ⊥
-  pub found : r < length m → getD m r 0 ≡ 0
+  pub before : (k : ℕ) → k < r → a ≤ k → getD m k 0 ≡ v
+  pub found : r < length m → getD m r 0 ≡ v → ⊥
 
 -- r is 0 only where every byte of m is
 pub record Blank (m : List ℕ) (r : ℕ) : Type 0 where

@@ -3,7 +3,7 @@ ghost use mathlib.Core.Path.{_≡_};
 ghost use Prim.Native.Nat.{ℕ, _+_, _≤_, _<_};
 ghost use lib.ListN.{length, drop, getD, replicate};
 ghost use lib.Seq.{paste};
-ghost use Rattle.copies.specs.Search.{copied, searched, Zero, Blank};
+ghost use Rattle.copies.specs.Search.{copied, searched, Other, Blank};
 
 // The bytes of a block that is copied, and of one that is searched.
 const COPIED: usize = 128;
@@ -63,15 +63,15 @@ pub fn fill(m: &mut [u8], v: u8)
     }
 }
 
-// 0 where no byte of the block from index at on is 0. The loop has no early exit, so that it compares sixteen bytes at a time.
-fn zeros(m: &[u8], at: usize) -> u8
+// 0 where every byte of the block from index at on is v. The loop has no early exit, so that it compares sixteen bytes at a time.
+fn others(m: &[u8], v: u8, at: usize) -> u8
     requires { ⌜ at + searched ≤ length (now m) ⌝ }
-    ensures { λ r. ⌜ (r ≡ 0 → (k : ℕ) → k < searched → getD (now (m .entry)) (at + k) 0 ≡ 0 → ⊥) ⌝ }
+    ensures { λ r. ⌜ (r ≡ 0 → (k : ℕ) → k < searched → getD (now (m .entry)) (at + k) 0 ≡ v) ⌝ }
 {
     let mut z = 0;
     let mut j = 0;
     while j < SEARCHED {
-        if m[at + j] == 0 {
+        if m[at + j] != v {
             z = 1;
         }
         j += 1;
@@ -79,14 +79,14 @@ fn zeros(m: &[u8], at: usize) -> u8
     z
 }
 
-// The same as first_zero, byte by byte.
-fn first_zero_slow(m: &[u8], from: usize) -> usize
+// The same as first_other, byte by byte.
+fn first_other_slow(m: &[u8], v: u8, from: usize) -> usize
     requires { ⌜ from ≤ length (now m) ⌝ }
-    ensures { λ r. ⌜ Zero (now (m .entry)) from r ⌝ }
+    ensures { λ r. ⌜ Other (now (m .entry)) v from r ⌝ }
 {
     let mut i = from;
     while i < m.len() {
-        if m[i] == 0 {
+        if m[i] != v {
             return i;
         }
         i += 1;
@@ -94,19 +94,19 @@ fn first_zero_slow(m: &[u8], from: usize) -> usize
     i
 }
 
-// The index of the first 0 of m from index from on, or m's length where there is none.
-pub fn first_zero(m: &[u8], from: usize) -> usize
+// The index of the first byte of m from index from on that is not v, or m's length where there is none.
+pub fn first_other(m: &[u8], v: u8, from: usize) -> usize
     requires { ⌜ from ≤ length (now m) ⌝ }
-    ensures { λ r. ⌜ Zero (now (m .entry)) from r ⌝ }
+    ensures { λ r. ⌜ Other (now (m .entry)) v from r ⌝ }
 {
     let mut i = from;
     while SEARCHED <= m.len() - i {
-        if zeros(m, i) != 0 {
-            return first_zero_slow(m, i);
+        if others(m, v, i) != 0 {
+            return first_other_slow(m, v, i);
         }
         i += SEARCHED;
     }
-    first_zero_slow(m, i)
+    first_other_slow(m, v, i)
 }
 
 // 0 where every byte of m is 0. The loop has no early exit, so that it compares sixteen bytes at a time.

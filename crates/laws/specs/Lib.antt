@@ -9,3 +9,5 @@ pub mod CopyLaws
 pub mod Part
 pub mod PartLaws
 pub mod Split
+pub mod Bits
+pub mod BitsLaws

@@ -1,10 +1,10 @@
 -- Laws of a part that was lent and came back as y: `putMid a k t y` is t with it. Assumes nothing.
-use mathlib.Core.Path.{_≡_, refl, sym, ap, _∙_}
+use mathlib.Core.Path.{_≡_, sym, ap, _∙_}
 use mathlib.Core.List.{List, _++_, append-nil}
-use Prim.Native.Nat.{ℕ, _+_, _-_, _≤_, _<_, min}
+use Prim.Native.Nat.{ℕ, _+_, _-_, _≤_, _<_}
 use native.Mathlib.Omega.{arith}
-use lib.ListN.{length, take, drop, getD, length-take, length-drop, drop-of-length-le}
-use lib.Seq.{ext-getD, getD-take, getD-drop, take-at, drop-at, drop-drop, take-append-le, drop-append-le, length-take-le, sets, sets-eq}
+use lib.ListN.{length, take, drop, getD, length-take, length-drop, drop-of-length-le, List·getD-append}
+use lib.Seq.{ext-getD, getD-append-add, getD-take, getD-drop, take-at, drop-at, drop-drop, take-append-le, drop-append-le, length-take-le, sets, sets-eq}
 use borrow.Rule.Slice.PartMut.{putMid, postOf, same-len-mid}
 use Rattle.laws.specs.Part.{part}
 
@@ -43,6 +43,27 @@ module _ (t y : List ℕ) (a k : ℕ) (fits : a + k ≤ length t) (size : length
       let v : drop (b - (a + k)) (postOf a k t) ≡ drop b t =
       drop-drop (b - (a + k)) k (drop a t) ∙ drop-drop (k + (b - (a + k))) a t ∙ ap (λ (x : ℕ). drop x t) e in
       ap (take n) (sym u ∙ d₃ ∙ v)
+
+-- the same, element by element
+past : (x y : List ℕ) (n j : ℕ) → length x ≡ n → getD (x ++ y) (n + j) 0 ≡ getD y j 0
+past x y n j e = rw (← e) (getD-append-add x y j 0)
+
+module _ (r y : List ℕ) (a k : ℕ) (fits : a ≤ length r) where
+  pub in-part : (j : ℕ) → j < length y → getD (putMid a k r y) (a + j) 0 ≡ getD y j 0
+  in-part j h = past (take a r) (y ++ postOf a k r) a j (length-take-le a r fits) ∙ List·getD-append y (postOf a k r) 0 j h
+
+  pub before-part : (j : ℕ) → j < a → getD (putMid a k r y) j 0 ≡ getD r j 0
+  before-part j h =
+      let l : length (take a r) ≡ a = length-take-le a r fits in
+      List·getD-append (take a r) (y ++ postOf a k r) 0 j (omega arith) ∙ getD-take a r j 0 h
+
+  pub after-part : (j : ℕ) → length y ≡ k → a + k ≤ j → getD (putMid a k r y) j 0 ≡ getD r j 0
+  after-part j e h =
+      let m : ℕ = j - (a + k) in
+      let p : j ≡ a + (k + m) = omega arith in
+      rw p
+      (past (take a r) (y ++ postOf a k r) a (k + m) (length-take-le a r fits) ∙ past y (postOf a k r) k m e ∙ getD-drop k (drop a r) m 0
+      ∙ getD-drop a r (k + m) 0)
 
 -- a list that was written over whole, word by word
 pub sets-all : (ws s : List ℕ) → length s ≡ length ws → sets s 0 ws ≡ ws

@@ -1,34 +1,15 @@
--- What stands where in a list in which a part was replaced, and that two replaced parts are a write into a ring. Assumes nothing.
+-- Two replaced parts are a write into a ring. Assumes nothing.
 use mathlib.Core.Path.{_≡_, refl, sym, ap, _∙_}
 use mathlib.Core.Logic.{⊎-elim}
-use mathlib.Core.List.{List, _∷_, _++_}
+use mathlib.Core.List.{List, _∷_}
 use Prim.Native.Nat.{ℕ, zero, suc, _+_, _-_, _%_, _≤_, _<_, min, zero-le}
 use native.Mathlib.Omega.{arith}
-use lib.ListN.{length, take, drop, getD, replicate, length-take, length-drop, length-replicate, List·getD-append}
-use lib.Seq.{getD-append-add, getD-take, getD-drop, length-take-le}
-use borrow.Rule.Slice.PartMut.{putMid, postOf, same-len-mid}
+use lib.ListN.{length, take, drop, getD, replicate, length-take, length-drop, length-replicate}
+use lib.Seq.{getD-take, getD-drop}
+use borrow.Rule.Slice.PartMut.{putMid, same-len-mid}
+use Rattle.laws.specs.PartLaws.{in-part, before-part, after-part}
 use Rattle.laws.specs.Split.{split}
 use Rattle.ring.specs.Ring.{capacity, Put, Got}
-
-past : (x y : List ℕ) (n j : ℕ) → length x ≡ n → getD (x ++ y) (n + j) 0 ≡ getD y j 0
-past x y n j e = rw (← e) (getD-append-add x y j 0)
-
-module _ (r y : List ℕ) (a k : ℕ) (fits : a ≤ length r) where
-  in-part : (j : ℕ) → j < length y → getD (putMid a k r y) (a + j) 0 ≡ getD y j 0
-  in-part j h = past (take a r) (y ++ postOf a k r) a j (length-take-le a r fits) ∙ List·getD-append y (postOf a k r) 0 j h
-
-  before-part : (j : ℕ) → j < a → getD (putMid a k r y) j 0 ≡ getD r j 0
-  before-part j h =
-      let l : length (take a r) ≡ a = length-take-le a r fits in
-      List·getD-append (take a r) (y ++ postOf a k r) 0 j (omega arith) ∙ getD-take a r j 0 h
-
-  after-part : (j : ℕ) → length y ≡ k → a + k ≤ j → getD (putMid a k r y) j 0 ≡ getD r j 0
-  after-part j e h =
-      let m : ℕ = j - (a + k) in
-      let p : j ≡ a + (k + m) = omega arith in
-      rw p
-      (past (take a r) (y ++ postOf a k r) a (k + m) (length-take-le a r fits) ∙ past y (postOf a k r) k m e ∙ getD-drop k (drop a r) m 0
-      ∙ getD-drop a r (k + m) 0)
 
 -- s in two parts: y from index a on, and z, of what is past the end of the ring, at its start
 put-two : (r s y z : List ℕ) (pos a k i j l m : ℕ) → length r ≡ capacity → length s ≤ capacity → a ≡ pos % capacity → k ≡ min (length s) (capacity - a)

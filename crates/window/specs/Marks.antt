@@ -1,18 +1,15 @@
 -- How the code keeps a window: h, and one bit for each number, bit q % 64 of word q / 64 % words. Only MarksLaws and the proofs of single marks open it.
 use mathlib.Core.Path.{_≡_}
 use mathlib.Core.List.{List, [], _∷_}
-use Prim.Native.Nat.{ℕ, zero, suc, _+_, _-_, _*_, _/_, _%_, _^_, _≤_, _<_}
+use Prim.Native.Nat.{ℕ, zero, suc, _-_, _/_, _%_}
 use lib.Dec.{ltb}
 use lib.ListN.{length, getD}
 use Rattle.laws.specs.Choice.{if}
+use Rattle.laws.specs.Bits.{bit}
 use Rattle.window.specs.Window.{width, Window, acceptOf}
 
 abbrev pub words : ℕ
 words = 16
-
--- bit k of the word w: 0 or 1
-unfoldable pub bit : ℕ → ℕ → ℕ
-bit w k = w / 2 ^ k % 2
 
 -- the mark of the number q: 0 or 1
 unfoldable pub mark : List ℕ → ℕ → ℕ

@@ -1,23 +1,23 @@
 -- `arrivals::lay` meets its contract. Assumes nothing.
-use Rattle.arrivals.proofs.StepsLaws.{laid}
 use borrow.Author.Needs.{needs}
+use Rattle.arrivals.proofs.StepsLaws.{laid}
 use Rattle.arrivals.proofs.lay.Statement.{statement}
 use Rattle.arrivals.proofs.lay.Tie as tie
 
-add-n : tie.Need-add-n
-add-n c = search needs
+add-end : tie.Need-add-end
+add-end c = search needs
 
-sub-n : tie.Need-sub-n
-sub-n c = search needs
+run-requires : tie.Need-run-requires
+run-requires c κs = search needs
+
+store-requires : tie.Need-store-requires
+store-requires c κs = search needs
 
 write-requires : tie.Need-write-requires
 write-requires c κs = search needs
 
-ring-fill-requires : tie.Need-ring-fill-requires
-ring-fill-requires c κs = search needs
-
-store-requires : tie.Need-store-requires
-store-requires c κs = search needs
+put-all-requires : tie.Need-put-all-requires
+put-all-requires c κs = search needs
 
 same-length : tie.Need-same-length
 same-length c = search needs
@@ -32,11 +32,11 @@ pub lay-spec : {M : Type 1} → statement M
 lay-spec =
     tie.close
     (tie.spec
-    add-n
-    sub-n
-    write-requires
-    ring-fill-requires
+    add-end
+    run-requires
     store-requires
+    write-requires
+    put-all-requires
     same-length
     same-length-2
     returns)

@@ -1,6 +1,6 @@
 -- `arrivals::place` meets its contract. Assumes nothing.
-use Rattle.arrivals.proofs.StepsLaws.{placed}
 use borrow.Author.Needs.{needs}
+use Rattle.arrivals.proofs.StepsLaws.{placed, placed-straight}
 use Rattle.arrivals.proofs.place.Statement.{statement}
 use Rattle.arrivals.proofs.place.Tie as tie
 
@@ -16,6 +16,9 @@ add-least c = search needs
 least-requires : tie.Need-least-requires
 least-requires c κs = search needs
 
+any-requires : tie.Need-any-requires
+any-requires c κs = search needs
+
 lay-requires : tie.Need-lay-requires
 lay-requires c κs = search needs
 
@@ -26,7 +29,19 @@ same-length-2 : tie.Need-same-length-2
 same-length-2 c = search needs
 
 returns : tie.Need-returns
-returns c = search (needs, placed)
+returns c = search (needs, placed-straight)
+
+lay-requires-2 : tie.Need-lay-requires-2
+lay-requires-2 c κs = search needs
+
+same-length-3 : tie.Need-same-length-3
+same-length-3 c = search needs
+
+same-length-4 : tie.Need-same-length-4
+same-length-4 c = search needs
+
+returns-2 : tie.Need-returns-2
+returns-2 c = search (needs, placed)
 
 pub place-spec : {M : Type 1} → statement M
 place-spec =
@@ -36,7 +51,12 @@ place-spec =
     most-requires-2
     add-least
     least-requires
+    any-requires
     lay-requires
     same-length
     same-length-2
-    returns)
+    returns
+    lay-requires-2
+    same-length-3
+    same-length-4
+    returns-2)

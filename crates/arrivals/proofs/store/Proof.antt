@@ -1,9 +1,8 @@
 -- `arrivals::store` meets its contract. Assumes nothing.
-use mathlib.Core.Logic.{⊎-elim}
 use Prim.Native.Nat.{_-_, _≤_}
 use borrow.Author.Needs.{needs}
 use Rattle.arrivals.specs.Steps.{Stored}
-use Rattle.arrivals.proofs.StepsLaws.{stored-none, stored-turn-skip, stored-turn-set, stored-all}
+use Rattle.arrivals.proofs.StepsLaws.{stored-none, stored-more, stored-all}
 use Rattle.arrivals.proofs.store.Statement.{statement}
 use Rattle.arrivals.proofs.store.Tie as tie
 
@@ -16,23 +15,8 @@ abbrev μ-loop : tie.MeasureT-loop
 loop-holds : tie.Need-loop-holds Inv-loop μ-loop
 loop-holds c = search (needs, stored-none)
 
-index-requires : tie.Need-index-requires Inv-loop μ-loop
-index-requires c κs = search needs
-
-slice-read-if1 : tie.Need-slice-read-if1 Inv-loop μ-loop
-slice-read-if1 c = search needs
-
-sub-k : tie.Need-sub-k Inv-loop μ-loop
-sub-k c = search needs
-
-shared-slice-read-ring : tie.Need-shared-slice-read-ring Inv-loop μ-loop
-shared-slice-read-ring c = search needs
-
-slice-write-ring : tie.Need-slice-write-ring Inv-loop μ-loop
-slice-write-ring c = search needs
-
-slice-write-marks : tie.Need-slice-write-marks Inv-loop μ-loop
-slice-write-marks c = search needs
+store-one-requires : tie.Need-store-one-requires Inv-loop μ-loop
+store-one-requires c κs = search needs
 
 add-q : tie.Need-add-q Inv-loop μ-loop
 add-q c = search needs
@@ -41,7 +25,7 @@ loop-less : tie.Need-loop-less Inv-loop μ-loop
 loop-less c = search needs
 
 loop-again : tie.Need-loop-again Inv-loop μ-loop
-loop-again c = ⊎-elim (λ w. search (needs, stored-turn-set)) (λ w. search (needs, stored-turn-skip)) (c .if1 .came)
+loop-again c = search (needs, stored-more)
 
 same-length : tie.Need-same-length Inv-loop μ-loop
 same-length c = search needs
@@ -59,12 +43,7 @@ store-spec =
     Inv-loop
     μ-loop
     loop-holds
-    index-requires
-    slice-read-if1
-    sub-k
-    shared-slice-read-ring
-    slice-write-ring
-    slice-write-marks
+    store-one-requires
     add-q
     loop-less
     loop-again

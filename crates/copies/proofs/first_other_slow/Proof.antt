@@ -1,17 +1,17 @@
--- `copies::first_zero_slow` meets its contract. Assumes nothing.
+-- `copies::first_other_slow` meets its contract. Assumes nothing.
 use mathlib.Core.Path.{_≡_}
 use Prim.Native.Nat.{ℕ, _-_, _≤_, _<_}
 use lib.ListN.{length, getD}
 use borrow.Author.Needs.{needs}
 use borrow.Author.Count.{below-more}
-use Rattle.copies.proofs.first_zero_slow.Statement.{statement}
-use Rattle.copies.proofs.first_zero_slow.Tie as tie
+use Rattle.copies.proofs.first_other_slow.Statement.{statement}
+use Rattle.copies.proofs.first_other_slow.Tie as tie
 
 abbrev Inv-loop : tie.InvT-loop
-Inv-loop m from i₀ i = (from ≤ i) × ((i ≤ length m) × ((k : ℕ) → k < i → from ≤ k → getD m k 0 ≡ 0 → ⊥))
+Inv-loop m v from i₀ i = (from ≤ i) × ((i ≤ length m) × ((k : ℕ) → k < i → from ≤ k → getD m k 0 ≡ v))
 
 abbrev μ-loop : tie.MeasureT-loop
-μ-loop m from i₀ i = length m - i
+μ-loop m v from i₀ i = length m - i
 
 loop-holds : tie.Need-loop-holds Inv-loop μ-loop
 loop-holds c = search needs
@@ -34,8 +34,8 @@ loop-again c = (search needs, (search needs, below-more _ _ (c .before .before .
 returns-2 : tie.Need-returns-2 Inv-loop μ-loop
 returns-2 c = search needs
 
-pub first-zero-slow-spec : {M : Type 1} → statement M
-first-zero-slow-spec =
+pub first-other-slow-spec : {M : Type 1} → statement M
+first-other-slow-spec =
     tie.close
     (tie.spec
     Inv-loop

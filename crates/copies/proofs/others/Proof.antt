@@ -1,4 +1,4 @@
--- `copies::zeros` meets its contract. Assumes nothing.
+-- `copies::others` meets its contract. Assumes nothing.
 use mathlib.Core.Path.{_≡_}
 use mathlib.Core.Logic.{⊎-elim}
 use Prim.Native.Nat.{ℕ, _+_, _-_, _≤_, _<_}
@@ -7,14 +7,14 @@ use lib.ListN.{getD}
 use Rattle.copies.specs.Search.{searched}
 use borrow.Author.Needs.{needs}
 use borrow.Author.Count.{below-more}
-use Rattle.copies.proofs.zeros.Statement.{statement}
-use Rattle.copies.proofs.zeros.Tie as tie
+use Rattle.copies.proofs.others.Statement.{statement}
+use Rattle.copies.proofs.others.Tie as tie
 
 abbrev Inv-loop : tie.InvT-loop
-Inv-loop m at z₀ j₀ z j = (j ≤ searched) × (z ≡ 0 → (k : ℕ) → k < j → getD m (at + k) 0 ≡ 0 → ⊥)
+Inv-loop m v at z₀ j₀ z j = (j ≤ searched) × (z ≡ 0 → (k : ℕ) → k < j → getD m (at + k) 0 ≡ v)
 
 abbrev μ-loop : tie.MeasureT-loop
-μ-loop m at z₀ j₀ z j = searched - j
+μ-loop m v at z₀ j₀ z j = searched - j
 
 loop-holds : tie.Need-loop-holds Inv-loop μ-loop
 loop-holds c = search needs
@@ -37,8 +37,8 @@ loop-again c = (search needs, ⊎-elim (λ w e. absurd (omega arith)) (λ w e. b
 returns : tie.Need-returns Inv-loop μ-loop
 returns c = λ e k h. c .before .loop .inv .1 e k (omega arith)
 
-pub zeros-spec : {M : Type 1} → statement M
-zeros-spec =
+pub others-spec : {M : Type 1} → statement M
+others-spec =
     tie.close
     (tie.spec
     Inv-loop

@@ -1,0 +1,198 @@
+-- Marks by the byte: one bit changed is one mark put, a byte of 255 or 0 is eight marks. Only here and in MarkLaws is it opened how a mark is kept. Assumes nothing.
+use mathlib.Core.Path.{_≡_, refl, sym, ap, _∙_}
+use mathlib.Core.Logic.{_⊎_, inl, inr, ⊎-elim}
+use mathlib.Core.List.{List}
+use Prim.Native.Nat.{ℕ, zero, suc, _+_, _-_, _*_, _/_, _%_, _^_, _≤_, _<_}
+use native.Mathlib.Nat.{zero-mul, zero-mod}
+use native.Mathlib.Decide.{ℕ-discrete}
+use native.Mathlib.Omega.{arith}
+use lib.ListN.{length, getD, set, length-set, take, drop, length-take, length-drop, replicate, length-replicate, getD-replicate}
+use lib.Seq.{getD-set-same, getD-set-other, getD-take, getD-drop}
+use lib.Bits.{bitAnd, bitOr, bitXor, xor-zero-r, and-mask}
+use borrow.Rule.Slice.PartMut.{putMid, same-len-mid}
+use Rattle.laws.specs.Split.{split}
+use Rattle.laws.specs.Bits.{bit}
+use Rattle.laws.specs.BitsLaws.{one-shl, set-here, set-there, clear-here, clear-there}
+use Rattle.laws.specs.PartLaws.{in-part, before-part, after-part}
+use Rattle.copies.specs.Search.{Other, Blank}
+use Rattle.ring.specs.Ring.{capacity}
+use Rattle.marks.specs.Marks.{mark}
+use Rattle.marks.specs.MarkLaws.{bit-none}
+use Rattle.marks.specs.Stretches.{Put, Marked, Skips, Unmarked, Straight}
+
+put-byte : (m : List ℕ) (q v w : ℕ) → length m ≡ capacity → bit w (q % 8) ≡ v
+    → ((k : ℕ) → (k ≡ q % 8 → ⊥) → bit w k ≡ bit (getD m (q % capacity / 8) 0) k)
+    → Put m q v (set m (q % capacity / 8) w)
+unfolding mark
+put-byte m q v w l here there = record {
+  length-same = simp length-set;
+  here = rw (getD-set-same m (q % capacity / 8) w 0 (omega arith)) here;
+  there = λ j ne.
+      elim (ℕ-discrete (j % capacity / 8) (q % capacity / 8)) [
+        | yes e ↦ rw (e, getD-set-same m (q % capacity / 8) w 0 (omega arith)) (there (j % 8) (λ e2. ne (omega arith)))
+        | no n ↦ rw (getD-set-other m (q % capacity / 8) (j % capacity / 8) w 0 n)
+      ];
+}
+
+-- the byte that is stored for v: 1 << k set, and cleared again where v is 0
+put-bit : (m : List ℕ) (q v : ℕ) → length m ≡ capacity → v < 2
+    → Put m q v
+    (set m (q % capacity / 8)
+    (bitXor (bitOr (getD m (q % capacity / 8) 0) ((1 * 2 ^ (q % 8)) % 2 ^ 8)) (((1 - v) * 2 ^ (q % 8)) % 2 ^ 8)))
+put-bit m q zero l h =
+    let w = getD m (q % capacity / 8) 0 in
+    rw (one-shl (q % 8) 8 (omega arith)) (put-byte m q 0 _ l (clear-here w (q % 8)) (clear-there w (q % 8)))
+put-bit m q (suc zero) l h =
+    let w = getD m (q % capacity / 8) 0 in
+    rw (one-shl (q % 8) 8 (omega arith), zero-mul (2 ^ (q % 8)), zero-mod (2 ^ 8), xor-zero-r (bitOr w (2 ^ (q % 8))))
+    (put-byte m q 1 _ l (set-here w (q % 8)) (set-there w (q % 8)))
+put-bit m q (suc (suc v)) l h = absurd (omega arith)
+
+pub put-mark : {m m′ : List ℕ} {q v i : ℕ} → length m ≡ capacity → v < 2 → i ≡ q % capacity / 8
+    → m′ ≡ set m i (bitXor (bitOr (getD m i 0) ((1 * 2 ^ (q % 8)) % 2 ^ 8)) (((1 - v) * 2 ^ (q % 8)) % 2 ^ 8))
+    → Put m q v m′
+put-mark {m} {m′} {q} {v} l h i e = rw (e, i) (put-bit m q v l h)
+
+pub read-mark : (m : List ℕ) (q i : ℕ) → i ≡ q % capacity / 8 → bitAnd (getD m i 0 / 2 ^ (q % 8)) 1 ≡ mark m q
+unfolding bit mark
+read-mark m q i e = rw e (and-mask (getD m (q % capacity / 8) 0 / 2 ^ (q % 8)) 1)
+
+-- a byte of 255 has every mark
+bit-all : (k : ℕ) → k < 8 → bit 255 k ≡ 1
+unfolding bit
+bit-all zero h = refl
+bit-all (suc zero) h = refl
+bit-all (suc (suc zero)) h = refl
+bit-all (suc (suc (suc zero))) h = refl
+bit-all (suc (suc (suc (suc zero)))) h = refl
+bit-all (suc (suc (suc (suc (suc zero))))) h = refl
+bit-all (suc (suc (suc (suc (suc (suc zero)))))) h = refl
+bit-all (suc (suc (suc (suc (suc (suc (suc zero))))))) h = refl
+bit-all (suc (suc (suc (suc (suc (suc (suc (suc k)))))))) h = absurd (omega arith)
+
+bit-byte : (v k : ℕ) → v < 2 → k < 8 → bit (v * 255) k ≡ v
+bit-byte zero k h l = bit-none k
+bit-byte (suc zero) k h l = bit-all k l
+bit-byte (suc (suc v)) k h l = absurd (omega arith)
+
+-- n whole bytes from index at on are the positions a .. b - 1
+module _ (m : List ℕ) (a b at n : ℕ) (full : length m ≡ capacity) (s : Straight a b) (ea : at ≡ a % capacity / 8) (en : n ≡ (b - a) / 8) where
+  byte-at : (q : ℕ) → a ≤ q → q < b → q % capacity / 8 ≡ at + (q - a) / 8
+  byte-at q lo hi =
+      let f = s .fits in
+      let w = s .whole .from in
+      let i : q % capacity ≡ a % capacity + (q - a) = omega arith in
+      omega arith
+
+  byte-in : (q : ℕ) → a ≤ q → q < b → (q - a) / 8 < n
+  byte-in q lo hi =
+      let w = s .whole .from in
+      let u = s .whole .upto in
+      omega arith
+
+  within : at + n ≤ length m
+  within =
+      let f = s .fits in
+      let w = s .whole .from in
+      let u = s .whole .upto in
+      omega arith
+
+  length-bytes : length (take n (drop at m)) ≡ n
+  length-bytes = let w = within in simp (length-take, length-drop) (omega arith)
+
+  bytes-at : (j : ℕ) → j < n → getD (take n (drop at m)) j 0 ≡ getD m (at + j) 0
+  bytes-at j h = getD-take n (drop at m) j 0 h ∙ getD-drop at m j 0
+
+  -- any other position stands in another byte
+  byte-apart : (q x : ℕ) → q % capacity ≡ (a + x) % capacity → b - a ≤ x → x < capacity → (q % capacity / 8 < at) ⊎ (at + n ≤ q % capacity / 8)
+  byte-apart q x e lo hi =
+      let f = s .fits in
+      let w = s .whole .from in
+      let u = s .whole .upto in
+      ⊎-elim
+      (λ lt. inl (omega arith))
+      (λ ge.
+      let i : a % capacity + (b - a) ≤ q % capacity = omega arith in
+      inr (omega arith))
+      (split (q % capacity) (a % capacity))
+
+  module _ (y : List ℕ) (v : ℕ) (bin : v < 2) (filled : y ≡ replicate (length (take n (drop at m))) (v * 255)) where
+    length-filled : length y ≡ n
+    length-filled = ap length filled ∙ length-replicate (length (take n (drop at m))) (v * 255) ∙ length-bytes
+
+    beside-bytes : (q x : ℕ) → q % capacity ≡ (a + x) % capacity → b - a ≤ x → x < capacity → mark (putMid at n m y) q ≡ mark m q
+    unfolding mark
+    beside-bytes q x e lo hi =
+        let w = within in
+        let g : getD (putMid at n m y) (q % capacity / 8) 0 ≡ getD m (q % capacity / 8) 0 =
+        ⊎-elim (λ lt. before-part m y at n (omega arith) (q % capacity / 8) lt) (λ ge. after-part m y at n (omega arith) (q % capacity / 8) length-filled ge)
+        (byte-apart q x e lo hi) in
+        rw g
+
+    into-bytes : (q : ℕ) → a ≤ q → q < b → mark (putMid at n m y) q ≡ v
+    unfolding mark
+    into-bytes q lo hi =
+        let w = within in
+        let l = length-bytes in
+        let ly = length-filled in
+        let j : ℕ = (q - a) / 8 in
+        let h : j < n = byte-in q lo hi in
+        let k : j < length (take n (drop at m)) = omega arith in
+        let g : getD (putMid at n m y) (at + j) 0 ≡ v * 255 =
+        in-part m y at n (omega arith) j (omega arith) ∙ ap (λ (x : List ℕ). getD x j 0) filled ∙ getD-replicate (length (take n (drop at m))) j (v * 255) 0 k in
+        rw (byte-at q lo hi, g) (bit-byte v (q % 8) bin (omega arith))
+
+    filled-bytes : Marked m a b v (putMid at n m y)
+    filled-bytes =
+        let o = s .whole .order in
+        let t = s .whole .turn in record {
+          length-same = same-len-mid at n m y (length-filled ∙ sym length-bytes);
+          same = record {
+            below = λ q h k. beside-bytes q (q + capacity - a) (omega arith) (omega arith) (omega arith);
+            above = λ q h k. beside-bytes q (q - a) (omega arith) (omega arith) (omega arith);
+          };
+          into = into-bytes;
+        }
+
+  passed-bytes : (z : ℕ) → Other (take n (drop at m)) 255 0 z → Skips m a b (a + z * 8)
+  unfolding mark
+  passed-bytes z f =
+      let l = length-bytes in
+      let h = f .high in
+      let o = s .whole .order in record {
+        a-l = omega arith;
+        l-b = omega arith;
+        marked = λ q lo hi.
+            let j : ℕ = (q - a) / 8 in
+            let u : j < z = omega arith in
+            let g : getD m (at + j) 0 ≡ 255 = sym (bytes-at j (omega arith)) ∙ f .before j u (omega arith) in
+            let i = byte-at q lo (omega arith) in
+            let k = bit-all (q % 8) (omega arith) in
+            let r : bit 255 (q % 8) ≡ 1 = k in
+            rw (i, g) (let p : 0 < bit 255 (q % 8) = omega arith in p);
+      }
+
+  blank-bytes : (r : ℕ) → Blank (take n (drop at m)) r → Unmarked m a b r
+  unfolding mark
+  blank-bytes r f =
+      let l = length-bytes in record {
+        none = λ e q lo hi.
+            let j : ℕ = (q - a) / 8 in
+            let u : j < n = byte-in q lo hi in
+            let g : getD m (at + j) 0 ≡ 0 = sym (bytes-at j u) ∙ f .zero e j (omega arith) in
+            rw (byte-at q lo hi, g) (bit-none (q % 8));
+      }
+
+-- the three, with the numbers as the code has them
+pub marked-bytes : {m y : List ℕ} {a b at v : ℕ} → length m ≡ capacity → v < 2 → Straight a b → at ≡ a % capacity / 8
+    → y ≡ replicate (length (take (at + (b - a) / 8 - at) (drop at m))) (v * 255)
+    → Marked m a b v (putMid at (at + (b - a) / 8 - at) m y)
+marked-bytes {m} {y} {a} {b} {at} {v} full h s ea e = filled-bytes m a b at (at + (b - a) / 8 - at) full s ea (omega arith) y v h e
+
+pub skips-bytes : {m : List ℕ} {a b at z : ℕ} → Other (take (at + (b - a) / 8 - at) (drop at m)) 255 0 z → length m ≡ capacity → Straight a b → at ≡ a % capacity / 8
+    → Skips m a b (a + z * 8)
+skips-bytes {m} {a} {b} {at} {z} f full s ea = passed-bytes m a b at (at + (b - a) / 8 - at) full s ea (omega arith) z f
+
+pub unmarked-bytes : {m : List ℕ} {a b at r : ℕ} → Blank (take (at + (b - a) / 8 - at) (drop at m)) r → length m ≡ capacity → Straight a b → at ≡ a % capacity / 8
+    → Unmarked m a b r
+unmarked-bytes {m} {a} {b} {at} {r} f full s ea = blank-bytes m a b at (at + (b - a) / 8 - at) full s ea (omega arith) r f

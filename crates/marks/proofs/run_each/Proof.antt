@@ -1,0 +1,48 @@
+-- `marks::run_each` meets its contract. Assumes nothing.
+use Prim.Native.Nat.{_-_}
+use Rattle.marks.specs.Stretches.{Skips}
+use borrow.Author.Needs.{needs}
+use Rattle.marks.proofs.StretchLaws.{skips-none, skips-more, runs-stop, runs-top}
+use Rattle.marks.proofs.run_each.Statement.{statement}
+use Rattle.marks.proofs.run_each.Tie as tie
+
+abbrev Inv-loop : tie.InvT-loop
+Inv-loop m low top q₀ q = Skips m low top q
+
+abbrev μ-loop : tie.MeasureT-loop
+μ-loop m low top q₀ q = top - q
+
+loop-holds : tie.Need-loop-holds Inv-loop μ-loop
+loop-holds c = search (needs, skips-none)
+
+test-requires : tie.Need-test-requires Inv-loop μ-loop
+test-requires c κs = search needs
+
+returns : tie.Need-returns Inv-loop μ-loop
+returns c = search (needs, runs-stop)
+
+add-q : tie.Need-add-q Inv-loop μ-loop
+add-q c = search needs
+
+loop-less : tie.Need-loop-less Inv-loop μ-loop
+loop-less c = search needs
+
+loop-again : tie.Need-loop-again Inv-loop μ-loop
+loop-again c = search (needs, skips-more)
+
+returns-2 : tie.Need-returns-2 Inv-loop μ-loop
+returns-2 c = search (needs, runs-top)
+
+pub run-each-spec : {M : Type 1} → statement M
+run-each-spec =
+    tie.close
+    (tie.spec
+    Inv-loop
+    μ-loop
+    loop-holds
+    test-requires
+    returns
+    add-q
+    loop-less
+    loop-again
+    returns-2)
