@@ -4,6 +4,7 @@ use mathlib.Core.Logic.{⊎-elim}
 use mathlib.Core.List.{List}
 use Prim.Native.Nat.{ℕ, _+_, _-_, _≤_, _<_}
 use native.Mathlib.Omega.{arith}
+use lib.Bits.{bitOr, bitXor, or-add-and, xor-add-and, and-le-l, and-le-r}
 use lib.ListN.{getD}
 use Rattle.laws.specs.Split.{split}
 use Rattle.copies.specs.Search.{Other}
@@ -25,3 +26,16 @@ other-from m v a i r l h z = record {
   before = λ k b f. ⊎-elim (λ lo. h k lo f) (λ lo. z .before k b lo) (split k i);
   found = z .found;
 }
+
+-- z | x ^ v is 0 only where z is 0 and x is v
+or-none : (a b : ℕ) → bitOr a b ≡ 0 → (a ≡ 0) × (b ≡ 0)
+or-none a b e = (omega (arith, or-add-and a b, and-le-l a b, and-le-r a b), omega (arith, or-add-and a b, and-le-l a b, and-le-r a b))
+
+xor-none : (x v : ℕ) → bitXor x v ≡ 0 → x ≡ v
+xor-none x v e = omega (arith, xor-add-and x v, and-le-l x v, and-le-r x v)
+
+pub block-more : (m : List ℕ) (v at z j : ℕ) → (z ≡ 0 → (k : ℕ) → k < j → getD m (at + k) 0 ≡ v) → bitOr z (bitXor (getD m (at + j) 0) v) ≡ 0
+    → (k : ℕ) → k < j + 1 → getD m (at + k) 0 ≡ v
+block-more m v at z j h e k l =
+    let p = or-none z (bitXor (getD m (at + j) 0) v) e in
+    ⊎-elim (λ lt. h (p .0) k lt) (λ ge. let i : k ≡ j = omega arith in rw i (xor-none (getD m (at + j) 0) v (p .1))) (split k j)

@@ -1,4 +1,4 @@
--- The first byte of a buffer that is not v, and a buffer of nothing but 0.
+-- The first byte of a buffer that is not v.
 use mathlib.Core.Path.{_≡_}
 use mathlib.Core.List.{List}
 use Prim.Native.Nat.{ℕ, _<_, _≤_}
@@ -17,7 +17,3 @@ pub record Other (m : List ℕ) (v a r : ℕ) : Type 0 where
   pub high : r ≤ length m
   pub before : (k : ℕ) → k < r → a ≤ k → getD m k 0 ≡ v
   pub found : r < length m → getD m r 0 ≡ v → ⊥
-
--- r is 0 only where every byte of m is
-pub record Blank (m : List ℕ) (r : ℕ) : Type 0 where
-  pub zero : r ≡ 0 → (k : ℕ) → k < length m → getD m k 0 ≡ 0

@@ -3,7 +3,7 @@ ghost use mathlib.Core.Path.{_≡_};
 ghost use Prim.Native.Nat.{ℕ, _+_, _≤_, _<_};
 ghost use lib.ListN.{length, drop, getD, replicate};
 ghost use lib.Seq.{paste};
-ghost use Rattle.copies.specs.Search.{copied, searched, Other, Blank};
+ghost use Rattle.copies.specs.Search.{copied, searched, Other};
 
 // The bytes of a block that is copied, and of one that is searched.
 const COPIED: usize = 128;
@@ -63,7 +63,7 @@ pub fn fill(m: &mut [u8], v: u8)
     }
 }
 
-// 0 where every byte of the block from index at on is v. The loop has no early exit, so that it compares sixteen bytes at a time.
+// 0 where every byte of the block from index at on is v. The loop has no branch, so that it compares sixteen bytes at a time.
 fn others(m: &[u8], v: u8, at: usize) -> u8
     requires { ⌜ at + searched ≤ length (now m) ⌝ }
     ensures { λ r. ⌜ (r ≡ 0 → (k : ℕ) → k < searched → getD (now (m .entry)) (at + k) 0 ≡ v) ⌝ }
@@ -71,9 +71,7 @@ fn others(m: &[u8], v: u8, at: usize) -> u8
     let mut z = 0;
     let mut j = 0;
     while j < SEARCHED {
-        if m[at + j] != v {
-            z = 1;
-        }
+        z = z | m[at + j] ^ v;
         j += 1;
     }
     z
@@ -107,19 +105,4 @@ pub fn first_other(m: &[u8], v: u8, from: usize) -> usize
         i += SEARCHED;
     }
     first_other_slow(m, v, i)
-}
-
-// 0 where every byte of m is 0. The loop has no early exit, so that it compares sixteen bytes at a time.
-pub fn nonzero(m: &[u8]) -> u8
-    ensures { λ r. ⌜ Blank (now (m .entry)) r ⌝ }
-{
-    let mut z = 0;
-    let mut i = 0;
-    while i < m.len() {
-        if m[i] != 0 {
-            z = 1;
-        }
-        i += 1;
-    }
-    z
 }

@@ -14,11 +14,11 @@ use Rattle.laws.specs.Split.{split}
 use Rattle.laws.specs.Bits.{bit}
 use Rattle.laws.specs.BitsLaws.{one-shl, set-here, set-there, clear-here, clear-there}
 use Rattle.laws.specs.PartLaws.{in-part, before-part, after-part}
-use Rattle.copies.specs.Search.{Other, Blank}
+use Rattle.copies.specs.Search.{Other}
 use Rattle.ring.specs.Ring.{capacity}
 use Rattle.marks.specs.Marks.{mark}
 use Rattle.marks.specs.MarkLaws.{bit-none}
-use Rattle.marks.specs.Stretches.{Put, Marked, Skips, Unmarked, Straight}
+use Rattle.marks.specs.Stretches.{Put, Marked, Skips, Straight}
 
 put-byte : (m : List ℕ) (q v w : ℕ) → length m ≡ capacity → bit w (q % 8) ≡ v
     → ((k : ℕ) → (k ≡ q % 8 → ⊥) → bit w k ≡ bit (getD m (q % capacity / 8) 0) k)
@@ -154,45 +154,28 @@ module _ (m : List ℕ) (a b at n : ℕ) (full : length m ≡ capacity) (s : Str
           into = into-bytes;
         }
 
-  passed-bytes : (z : ℕ) → Other (take n (drop at m)) 255 0 z → Skips m a b (a + z * 8)
+  passed-bytes : (v z : ℕ) → v < 2 → Other (take n (drop at m)) (v * 255) 0 z → Skips m v a b (a + z * 8)
   unfolding mark
-  passed-bytes z f =
+  passed-bytes v z bin f =
       let l = length-bytes in
       let h = f .high in
       let o = s .whole .order in record {
         a-l = omega arith;
         l-b = omega arith;
-        marked = λ q lo hi.
+        all = λ q lo hi.
             let j : ℕ = (q - a) / 8 in
             let u : j < z = omega arith in
-            let g : getD m (at + j) 0 ≡ 255 = sym (bytes-at j (omega arith)) ∙ f .before j u (omega arith) in
-            let i = byte-at q lo (omega arith) in
-            let k = bit-all (q % 8) (omega arith) in
-            let r : bit 255 (q % 8) ≡ 1 = k in
-            rw (i, g) (let p : 0 < bit 255 (q % 8) = omega arith in p);
+            let g : getD m (at + j) 0 ≡ v * 255 = sym (bytes-at j (omega arith)) ∙ f .before j u (omega arith) in
+            rw (byte-at q lo (omega arith), g) (bit-byte v (q % 8) bin (omega arith));
       }
 
-  blank-bytes : (r : ℕ) → Blank (take n (drop at m)) r → Unmarked m a b r
-  unfolding mark
-  blank-bytes r f =
-      let l = length-bytes in record {
-        none = λ e q lo hi.
-            let j : ℕ = (q - a) / 8 in
-            let u : j < n = byte-in q lo hi in
-            let g : getD m (at + j) 0 ≡ 0 = sym (bytes-at j u) ∙ f .zero e j (omega arith) in
-            rw (byte-at q lo hi, g) (bit-none (q % 8));
-      }
-
--- the three, with the numbers as the code has them
+-- the two, with the numbers as the code has them
 pub marked-bytes : {m y : List ℕ} {a b at v : ℕ} → length m ≡ capacity → v < 2 → Straight a b → at ≡ a % capacity / 8
     → y ≡ replicate (length (take (at + (b - a) / 8 - at) (drop at m))) (v * 255)
     → Marked m a b v (putMid at (at + (b - a) / 8 - at) m y)
 marked-bytes {m} {y} {a} {b} {at} {v} full h s ea e = filled-bytes m a b at (at + (b - a) / 8 - at) full s ea (omega arith) y v h e
 
-pub skips-bytes : {m : List ℕ} {a b at z : ℕ} → Other (take (at + (b - a) / 8 - at) (drop at m)) 255 0 z → length m ≡ capacity → Straight a b → at ≡ a % capacity / 8
-    → Skips m a b (a + z * 8)
-skips-bytes {m} {a} {b} {at} {z} f full s ea = passed-bytes m a b at (at + (b - a) / 8 - at) full s ea (omega arith) z f
-
-pub unmarked-bytes : {m : List ℕ} {a b at r : ℕ} → Blank (take (at + (b - a) / 8 - at) (drop at m)) r → length m ≡ capacity → Straight a b → at ≡ a % capacity / 8
-    → Unmarked m a b r
-unmarked-bytes {m} {a} {b} {at} {r} f full s ea = blank-bytes m a b at (at + (b - a) / 8 - at) full s ea (omega arith) r f
+pub skips-bytes : {m : List ℕ} {a b at v z : ℕ} → Other (take (at + (b - a) / 8 - at) (drop at m)) (v * 255) 0 z → length m ≡ capacity → v < 2 → Straight a b
+    → at ≡ a % capacity / 8
+    → Skips m v a b (a + z * 8)
+skips-bytes {m} {a} {b} {at} {v} {z} f full h s ea = passed-bytes m a b at (at + (b - a) / 8 - at) full s ea (omega arith) v z h f

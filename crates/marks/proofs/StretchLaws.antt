@@ -8,7 +8,8 @@ use native.Mathlib.Nat.{le-antisymm}
 use Rattle.laws.specs.Split.{split}
 use Rattle.ring.specs.Ring.{capacity}
 use Rattle.marks.specs.Marks.{mark}
-use Rattle.marks.specs.Stretches.{Put, Marked, Runs, Skips, Unmarked, Up}
+use Rattle.marks.specs.MarkLaws.{mark-lt}
+use Rattle.marks.specs.Stretches.{Put, Marked, Skips, Finds, Runs, Unmarked, Up}
 
 pub marked-none : {m : List ℕ} {a v : ℕ} → Marked m a a v m
 marked-none = record {
@@ -54,69 +55,62 @@ marked-three {b = b} p q r u far up =
     let l : b ≤ b - b % 8 + 7 = omega arith in
     marked-join (marked-join p q i (omega arith) (omega arith)) r (omega arith) k up
 
-pub unmarked-none : {m : List ℕ} {a : ℕ} → Unmarked m a a 0
-unmarked-none = record { none = λ e q h k. absurd (omega arith) }
+pub skips-none : {m : List ℕ} {v a b : ℕ} → a ≤ b → Skips m v a b a
+skips-none h = record { a-l = omega arith; l-b = h; all = λ q l k. absurd (omega arith) }
 
-pub unmarked-join : {m : List ℕ} {a b e r₁ r : ℕ} → Unmarked m a b r₁ → r₁ ≡ 0 → Unmarked m b e r → Unmarked m a e r
-unmarked-join {b = b} x z y = record { none = λ e q h k. ⊎-elim (λ lt. x .none z q h lt) (λ ge. y .none e q ge k) (split q b) }
-
-pub unmarked-more : {m : List ℕ} {a q r : ℕ} → Unmarked m a q 0 → r ≡ mark m q → r ≡ 0 → Unmarked m a (q + 1) 0
-unmarked-more {m} {a} {q} x e z = record {
-  none = λ o j h k. ⊎-elim (λ lt. x .none o j h lt) (λ ge. let i : j ≡ q = omega arith in rw i (sym e ∙ z)) (split j q);
-}
-
-pub unmarked-all : {m : List ℕ} {a q b : ℕ} → Unmarked m a q 0 → b ≤ q → Unmarked m a b 0
-unmarked-all x h = record { none = λ o j l k. x .none o j l (omega arith) }
-
-pub unmarked-three : {m : List ℕ} {a x y b r₁ r₂ r : ℕ} → Unmarked m a x r₁ → r₁ ≡ 0 → Unmarked m x y r₂ → r₂ ≡ 0 → Unmarked m y b r → Unmarked m a b r
-unmarked-three p e q f r = unmarked-join (unmarked-join p e q) f r
-
-pub skips-none : {m : List ℕ} {a b : ℕ} → a ≤ b → Skips m a b a
-skips-none h = record { a-l = omega arith; l-b = h; marked = λ q l k. absurd (omega arith) }
-
-pub skips-more : {m : List ℕ} {a b q r : ℕ} → Skips m a b q → r ≡ mark m q → (r ≡ 0 → ⊥) → q < b → Skips m a b (q + 1)
-skips-more {m} {a} {b} {q} {r} x e n lt =
-    let y : 0 < mark m q = omega arith in
+pub skips-more : {m : List ℕ} {v a b q r : ℕ} → Skips m v a b q → r ≡ mark m q → r ≡ v → q < b → Skips m v a b (q + 1)
+skips-more {q = q} x e f lt =
     let l = x .a-l in record {
       a-l = omega arith;
       l-b = omega arith;
-      marked = λ j h k. ⊎-elim (λ lt. x .marked j h lt) (λ ge. let i : j ≡ q = omega arith in rw i y) (split j q);
+      all = λ j h k. ⊎-elim (λ lt. x .all j h lt) (λ ge. let i : j ≡ q = omega arith in rw i (sym e ∙ f)) (split j q);
     }
 
-pub skips-within : {m : List ℕ} {a s b l : ℕ} → Skips m a s l → s ≤ b → Skips m a b l
-skips-within x h = let k = x .l-b in record { a-l = x .a-l; l-b = omega arith; marked = x .marked }
+pub skips-within : {m : List ℕ} {v a s b l : ℕ} → Skips m v a s l → s ≤ b → Skips m v a b l
+skips-within x h = let k = x .l-b in record { a-l = x .a-l; l-b = omega arith; all = x .all }
 
-pub skips-join : {m : List ℕ} {a s b l r : ℕ} → Skips m a s l → s ≤ l → Skips m s b r → Skips m a b r
+pub skips-join : {m : List ℕ} {v a s b l r : ℕ} → Skips m v a s l → s ≤ l → Skips m v s b r → Skips m v a b r
 skips-join {s = s} x h y =
     let i = x .a-l in
     let j = x .l-b in
     let k = y .a-l in record {
       a-l = omega arith;
       l-b = y .l-b;
-      marked = λ q lo hi. ⊎-elim (λ lt. x .marked q lo (omega arith)) (λ ge. y .marked q ge hi) (split q s);
+      all = λ q lo hi. ⊎-elim (λ lt. x .all q lo (omega arith)) (λ ge. y .all q ge hi) (split q s);
     }
 
--- the search ends at q: it has no mark, or is the top
-pub runs-stop : {m : List ℕ} {low top q r : ℕ} → Skips m low top q → r ≡ mark m q → r ≡ 0 → Runs m low top q
-runs-stop x e z = record { low-l = x .a-l; l-top = x .l-b; marked = x .marked; stop = λ h. sym e ∙ z }
+-- the search ends at q: its mark is another, or it is the end
+pub finds-stop : {m : List ℕ} {v a b q r : ℕ} → Skips m v a b q → r ≡ mark m q → (r ≡ v → ⊥) → Finds m v a b q
+finds-stop x e n = record { skips = x; stop = λ h f. n (e ∙ f) }
 
-pub runs-top : {m : List ℕ} {low top q : ℕ} → Skips m low top q → top ≤ q → Runs m low top q
-runs-top x h = record { low-l = x .a-l; l-top = x .l-b; marked = x .marked; stop = λ k. absurd (omega arith) }
+pub finds-end : {m : List ℕ} {v a b q : ℕ} → Skips m v a b q → b ≤ q → Finds m v a b q
+finds-end x h = record { skips = x; stop = λ k. absurd (omega arith) }
 
-pub runs-within : {m : List ℕ} {low x top l : ℕ} → Runs m low x l → l < x → Up (low + 1) x → 32 ≤ top - low → Runs m low top l
-runs-within r h u far = let i = u .high in record { low-l = r .low-l; l-top = omega arith; marked = r .marked; stop = λ _. r .stop h }
+pub finds-within : {m : List ℕ} {v a x b l : ℕ} → Finds m v a x l → l < x → Up a x → 16 ≤ b - a → Finds m v a b l
+finds-within r h u far = let i = u .high in record { skips = skips-within (r .skips) (omega arith); stop = λ _. r .stop h }
 
 -- one by one up to x, whole bytes up to z, and on
-pub runs-over : {m : List ℕ} {low x y z top l r : ℕ} → Runs m low x l → x ≤ l → Skips m x y z → Runs m z top r → Up (low + 1) x → Runs m low top r
-runs-over {x = x} {z = z} p h s r u =
-    let o = u .low in
+pub finds-over : {m : List ℕ} {v a x y z b l r : ℕ} → Finds m v a x l → x ≤ l → Skips m v x y z → Finds m v z b r → Finds m v a b r
+finds-over {x = x} {y = y} {z = z} p h s r =
     let i = s .a-l in
-    let j = r .low-l in record {
-      low-l = omega arith;
-      l-top = r .l-top;
-      marked = λ q lo hi.
-          ⊎-elim (λ lt. p .marked q lo (omega arith))
-          (λ ge. ⊎-elim (λ lt. s .marked q ge lt) (λ ge. r .marked q ge hi) (split q z))
-          (split q x);
+    let t = skips-join (p .skips) h s in
+    let j = t .a-l in
+    let k = r .skips .a-l in record {
+      skips = record {
+        a-l = omega arith;
+        l-b = r .skips .l-b;
+        all = λ q lo hi. ⊎-elim (λ lt. t .all q lo lt) (λ ge. r .skips .all q ge hi) (split q z);
+      };
       stop = r .stop;
     }
+
+pub runs-found : {m : List ℕ} {low top l : ℕ} → Finds m 1 low top l → Runs m low top l
+runs-found {m} {low} {top} {l} f = record {
+  low-l = f .skips .a-l;
+  l-top = f .skips .l-b;
+  marked = λ q h k. let e = f .skips .all q h k in omega arith;
+  stop = λ h. let n = f .stop h in let b = mark-lt m l in omega arith;
+}
+
+pub unmarked-found : {m : List ℕ} {a b l : ℕ} → Finds m 0 a b l → b ≤ l → Unmarked m a b 0
+unmarked-found f h = record { none = λ e q lo hi. f .skips .all q lo (omega arith) }

@@ -17,6 +17,10 @@ mark-turn l q h =
     let f : q % 8 ≡ (q - capacity) % 8 = omega arith in
     rw (e, f)
 
+pub mark-lt : (m : List ℕ) (q : ℕ) → mark m q < 2
+unfolding mark bit
+mark-lt m q = omega arith
+
 -- a byte of 0 has no mark
 pub bit-none : (k : ℕ) → bit 0 k ≡ 0
 unfolding bit

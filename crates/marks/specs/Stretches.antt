@@ -23,18 +23,23 @@ pub record Marked (m : List ℕ) (a b v : ℕ) (m′ : List ℕ) : Type 0 where
   pub same : Same (mark m) a b (mark m′)
   pub into : (q : ℕ) → a ≤ q → q < b → mark m′ q ≡ v
 
+-- each mark of a .. l - 1 is v, and l is b or below
+pub record Skips (m : List ℕ) (v a b l : ℕ) : Type 0 where
+  pub a-l : a ≤ l
+  pub l-b : l ≤ b
+  pub all : (q : ℕ) → a ≤ q → q < l → mark m q ≡ v
+
+-- and l is the first position from a on whose mark is not v, or b
+pub record Finds (m : List ℕ) (v a b l : ℕ) : Type 0 where
+  pub skips : Skips m v a b l
+  pub stop : l < b → mark m l ≡ v → ⊥
+
 -- l is the first position from low on without a mark, or top
 pub record Runs (m : List ℕ) (low top l : ℕ) : Type 0 where
   pub low-l : low ≤ l
   pub l-top : l ≤ top
   pub marked : (q : ℕ) → low ≤ q → q < l → 0 < mark m q
   pub stop : l < top → mark m l ≡ 0
-
--- each position of a .. l - 1 has a mark; l is b or below
-pub record Skips (m : List ℕ) (a b l : ℕ) : Type 0 where
-  pub a-l : a ≤ l
-  pub l-b : l ≤ b
-  pub marked : (q : ℕ) → a ≤ q → q < l → 0 < mark m q
 
 -- r is 0 only where no position of a .. b - 1 has a mark
 pub record Unmarked (m : List ℕ) (a b r : ℕ) : Type 0 where

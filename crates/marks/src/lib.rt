@@ -4,7 +4,7 @@ ghost use Prim.Native.Nat.{_+_, _/_, _%_, _≤_, _<_};
 ghost use lib.ListN.{length};
 ghost use Rattle.ring.specs.Ring.{capacity};
 ghost use Rattle.marks.specs.Marks.{mark};
-ghost use Rattle.marks.specs.Stretches.{Put, Marked, Runs, Skips, Unmarked, Up, Whole, Straight, Parts};
+ghost use Rattle.marks.specs.Stretches.{Put, Marked, Skips, Finds, Runs, Unmarked, Up, Whole, Straight, Parts};
 
 // The index of the byte that has the mark of q.
 fn byte(q: u64) -> usize
@@ -104,43 +104,77 @@ pub fn put_all(m: &mut [u8], a: u64, b: u64, v: u8)
     put_each(m, y, b, v);
 }
 
-// 0 where no position of a .. b - 1 has a mark, one by one.
-fn any_each(m: &[u8], a: u64, b: u64) -> u8
+// The first position from a on whose mark is not v, or b, one by one.
+fn find_each(m: &[u8], a: u64, b: u64, v: u8) -> u64
     requires { ⌜ length (now m) ≡ capacity ⌝ }
-    ensures { λ r. ⌜ Unmarked (now (m .entry)) a b r ⌝ }
+    requires { ⌜ a ≤ b ⌝ }
+    ensures { λ r. ⌜ Finds (now (m .entry)) v a b r ⌝ }
 {
     let mut q = a;
     while q < b {
-        if test(m, q) != 0 {
-            return 1;
+        if test(m, q) != v {
+            return q;
         }
         q += 1;
     }
-    0
+    q
 }
 
-// The same where they are whole bytes, none beyond the seam.
-fn any_bytes(m: &[u8], a: u64, b: u64) -> u8
-    requires { ⌜ length (now m) ≡ capacity ⌝ }
+// Passes whole bytes in which each mark is v, none beyond the seam.
+fn skip_bytes(m: &[u8], a: u64, b: u64, v: u8) -> u64
+    requires { ⌜ (length (now m) ≡ capacity) × (v < 2) ⌝ }
     requires { ⌜ Straight a b ⌝ }
-    ensures { λ r. ⌜ Unmarked (now (m .entry)) a b r ⌝ }
+    ensures { λ r. ⌜ Skips (now (m .entry)) v a b r ⌝ }
 {
     let at = byte(a);
     let n = ((b - a) / 8) as usize;
-    copies::nonzero(&m[at..at + n])
+    let z = copies::first_other(&m[at..at + n], v * 255, 0) as u64;
+    a + z * 8
 }
 
 // Whole bytes, in two parts at the seam.
-fn any_whole(m: &[u8], a: u64, b: u64) -> u8
-    requires { ⌜ length (now m) ≡ capacity ⌝ }
+fn skip_whole(m: &[u8], a: u64, b: u64, v: u8) -> u64
+    requires { ⌜ (length (now m) ≡ capacity) × (v < 2) ⌝ }
     requires { ⌜ Whole a b ⌝ }
-    ensures { λ r. ⌜ Unmarked (now (m .entry)) a b r ⌝ }
+    ensures { λ r. ⌜ Skips (now (m .entry)) v a b r ⌝ }
 {
     let s = seam(a, b);
-    if any_bytes(m, a, s) != 0 {
-        return 1;
+    let l = skip_bytes(m, a, s, v);
+    if l < s {
+        return l;
     }
-    any_bytes(m, s, b)
+    skip_bytes(m, s, b, v)
+}
+
+// The first position from a on whose mark is not v, or b.
+fn find(m: &[u8], a: u64, b: u64, v: u8) -> u64
+    requires { ⌜ (length (now m) ≡ capacity) × (v < 2) ⌝ }
+    requires { ⌜ (a ≤ b) × (b ≤ a + capacity) ⌝ }
+    ensures { λ r. ⌜ Finds (now (m .entry)) v a b r ⌝ }
+{
+    if b - a < 16 {
+        return find_each(m, a, b, v);
+    }
+    let x = up(a, b);
+    let l = find_each(m, a, x, v);
+    if l < x {
+        return l;
+    }
+    let y = b - b % 8;
+    let z = skip_whole(m, x, y, v);
+    find_each(m, z, b, v)
+}
+
+// The first position from low on without a mark, or top. Mostly it is low itself.
+pub fn run(m: &[u8], low: u64, top: u64) -> u64
+    requires { ⌜ length (now m) ≡ capacity ⌝ }
+    requires { ⌜ (low ≤ top) × (top ≤ low + capacity) ⌝ }
+    ensures { λ r. ⌜ Runs (now (m .entry)) low top r ⌝ }
+{
+    if test(m, low) == 0 {
+        return low;
+    }
+    find(m, low, top, 1)
 }
 
 // 0 where no position of a .. b - 1 has a mark.
@@ -149,77 +183,8 @@ pub fn any(m: &[u8], a: u64, b: u64) -> u8
     requires { ⌜ (a ≤ b) × (b ≤ a + capacity) ⌝ }
     ensures { λ r. ⌜ Unmarked (now (m .entry)) a b r ⌝ }
 {
-    if b - a < 16 {
-        return any_each(m, a, b);
-    }
-    let x = up(a, b);
-    if any_each(m, a, x) != 0 {
+    if find(m, a, b, 0) < b {
         return 1;
     }
-    let y = b - b % 8;
-    if any_whole(m, x, y) != 0 {
-        return 1;
-    }
-    any_each(m, y, b)
-}
-
-// The first position from low on without a mark, or top, one by one.
-fn run_each(m: &[u8], low: u64, top: u64) -> u64
-    requires { ⌜ length (now m) ≡ capacity ⌝ }
-    requires { ⌜ low ≤ top ⌝ }
-    ensures { λ r. ⌜ Runs (now (m .entry)) low top r ⌝ }
-{
-    let mut q = low;
-    while q < top {
-        if test(m, q) == 0 {
-            return q;
-        }
-        q += 1;
-    }
-    q
-}
-
-// Passes whole bytes with every mark set, none beyond the seam.
-fn skip_bytes(m: &[u8], a: u64, b: u64) -> u64
-    requires { ⌜ length (now m) ≡ capacity ⌝ }
-    requires { ⌜ Straight a b ⌝ }
-    ensures { λ r. ⌜ Skips (now (m .entry)) a b r ⌝ }
-{
-    let at = byte(a);
-    let n = ((b - a) / 8) as usize;
-    let z = copies::first_other(&m[at..at + n], 255, 0) as u64;
-    a + z * 8
-}
-
-// Whole bytes, in two parts at the seam.
-fn skip_whole(m: &[u8], a: u64, b: u64) -> u64
-    requires { ⌜ length (now m) ≡ capacity ⌝ }
-    requires { ⌜ Whole a b ⌝ }
-    ensures { λ r. ⌜ Skips (now (m .entry)) a b r ⌝ }
-{
-    let s = seam(a, b);
-    let l = skip_bytes(m, a, s);
-    if l < s {
-        return l;
-    }
-    skip_bytes(m, s, b)
-}
-
-// The first position from low on without a mark, or top. The mark of low is looked at first: mostly it is the one that is missing.
-pub fn run(m: &[u8], low: u64, top: u64) -> u64
-    requires { ⌜ length (now m) ≡ capacity ⌝ }
-    requires { ⌜ (low ≤ top) × (top ≤ low + capacity) ⌝ }
-    ensures { λ r. ⌜ Runs (now (m .entry)) low top r ⌝ }
-{
-    if top - low < 32 {
-        return run_each(m, low, top);
-    }
-    let x = up(low + 1, top);
-    let l = run_each(m, low, x);
-    if l < x {
-        return l;
-    }
-    let y = top - top % 8;
-    let z = skip_whole(m, x, y);
-    run_each(m, z, top)
+    0
 }

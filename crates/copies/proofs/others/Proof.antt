@@ -1,12 +1,11 @@
 -- `copies::others` meets its contract. Assumes nothing.
 use mathlib.Core.Path.{_≡_}
-use mathlib.Core.Logic.{⊎-elim}
 use Prim.Native.Nat.{ℕ, _+_, _-_, _≤_, _<_}
 use native.Mathlib.Omega.{arith}
 use lib.ListN.{getD}
 use Rattle.copies.specs.Search.{searched}
 use borrow.Author.Needs.{needs}
-use borrow.Author.Count.{below-more}
+use Rattle.copies.proofs.SearchLaws.{block-more}
 use Rattle.copies.proofs.others.Statement.{statement}
 use Rattle.copies.proofs.others.Tie as tie
 
@@ -19,11 +18,11 @@ abbrev μ-loop : tie.MeasureT-loop
 loop-holds : tie.Need-loop-holds Inv-loop μ-loop
 loop-holds c = search needs
 
-add-if1 : tie.Need-add-if1 Inv-loop μ-loop
-add-if1 c = search needs
+add-z : tie.Need-add-z Inv-loop μ-loop
+add-z c = search needs
 
-shared-slice-read-if1 : tie.Need-shared-slice-read-if1 Inv-loop μ-loop
-shared-slice-read-if1 c = search needs
+shared-slice-read-z : tie.Need-shared-slice-read-z Inv-loop μ-loop
+shared-slice-read-z c = search needs
 
 add-j : tie.Need-add-j Inv-loop μ-loop
 add-j c = search needs
@@ -32,7 +31,10 @@ loop-less : tie.Need-loop-less Inv-loop μ-loop
 loop-less c = search needs
 
 loop-again : tie.Need-loop-again Inv-loop μ-loop
-loop-again c = (search needs, ⊎-elim (λ w e. absurd (omega arith)) (λ w e. below-more _ _ (c .before .before .before .loop .inv .1 (omega arith)) (w .0 .left)) (c .if1 .came))
+loop-again c =
+    let l = c .before .before .loop in
+    let a = c .before .before .before .args in
+    (search needs, block-more (a .m .now) (a .v) (a .at) (l .z) (l .j) (l .inv .1))
 
 returns : tie.Need-returns Inv-loop μ-loop
 returns c = λ e k h. c .before .loop .inv .1 e k (omega arith)
@@ -44,8 +46,8 @@ others-spec =
     Inv-loop
     μ-loop
     loop-holds
-    add-if1
-    shared-slice-read-if1
+    add-z
+    shared-slice-read-z
     add-j
     loop-less
     loop-again

@@ -22,6 +22,9 @@ part-first-other-start c = search needs
 part-first-other-end : tie.Need-part-first-other-end
 part-first-other-end c = search needs
 
+mul-first-other : tie.Need-mul-first-other
+mul-first-other c = search needs
+
 first-other-requires : tie.Need-first-other-requires
 first-other-requires c κs = search needs
 
@@ -44,6 +47,7 @@ skip-bytes-spec =
     sub-first-other
     part-first-other-start
     part-first-other-end
+    mul-first-other
     first-other-requires
     mul-result
     add-result
