@@ -84,30 +84,7 @@ got-two r d y z pos n a k i j l m full ld small ea ek ei ej el em hy hz =
           (split h k);
     }
 
-take-replicate : (k n v : ℕ) → k ≤ n → take k (replicate n v) ≡ replicate k v
-take-replicate zero n v h = refl
-take-replicate (suc k) zero v h = absurd (omega arith)
-take-replicate (suc k) (suc n) v h = ap (λ (l : List ℕ). v ∷ l) (take-replicate k n v (omega arith))
-
-drop-replicate : (k n v : ℕ) → k ≤ n → drop k (replicate n v) ≡ replicate (n - k) v
-drop-replicate zero n v h = let e : n - 0 ≡ n = omega arith in rw e
-drop-replicate (suc k) zero v h = absurd (omega arith)
-drop-replicate (suc k) (suc n) v h = let e : suc n - suc k ≡ n - k = omega arith in rw e (drop-replicate k n v (omega arith))
-
--- n times v in two such parts
-fill-two : (r y z : List ℕ) (pos n a k l m v i j : ℕ) → length r ≡ capacity → n ≤ capacity → a ≡ pos % capacity → k ≡ min n (capacity - a) → l ≡ k
-    → m ≡ n - k → y ≡ replicate i v → z ≡ replicate j v → i ≡ k → j ≡ m → Put r pos (replicate n v) (putMid 0 m (putMid a l r y) z)
-fill-two r y z pos n a k l m v i j full small ea ek el em hy hz ei ej =
-    let s : List ℕ = replicate n v in
-    let w : length s ≡ n = length-replicate n v in
-    let hk : k ≤ n = omega arith in
-    let hm : m ≤ n - k = omega arith in
-    let ty : y ≡ take k s = hy ∙ ap (λ (x : ℕ). replicate x v) ei ∙ sym (take-replicate k n v hk) in
-    let tz : z ≡ take m (drop k s) =
-    hz ∙ ap (λ (x : ℕ). replicate x v) ej ∙ sym (ap (take m) (drop-replicate k n v hk) ∙ take-replicate m (n - k) v hm) in
-    put-two r s y z pos a k k m l m full (omega arith) ea (omega arith) refl (omega arith) el (omega arith) ty tz
-
--- the three, with the numbers as the code has them
+-- the two, with the numbers as the code has them
 pub put-parts : (r s y z : List ℕ) (pos a k : ℕ) → length r ≡ capacity → length s ≤ capacity → a ≡ pos % capacity → k ≡ min (length s) (capacity - a)
     → y ≡ take (k - 0) s → z ≡ take (length s - k) (drop k s) → Put r pos s (putMid 0 (length s - k - 0) (putMid a (a + k - a) r y) z)
 put-parts r s y z pos a k full small ea ek hy hz =
@@ -117,14 +94,3 @@ pub got-parts : (r d y z : List ℕ) (pos a k : ℕ) → length r ≡ capacity �
     → y ≡ take (a + k - a) (drop a r) → z ≡ take (length d - k - 0) r → Got r pos (length d) (putMid k (length d - k) (putMid 0 (k - 0) d y) z)
 got-parts r d y z pos a k full small ea ek hy hz =
     got-two r d y z pos (length d) a k (a + k - a) (length d - k - 0) (k - 0) (length d - k) full refl small ea ek (omega arith) (omega arith) (omega arith) refl hy hz
-
-pub fill-parts : (r y z : List ℕ) (pos n v a k : ℕ) → length r ≡ capacity → n ≤ capacity → a ≡ pos % capacity → k ≡ min n (capacity - a)
-    → y ≡ replicate (length (take (a + k - a) (drop a r))) v → z ≡ replicate (length (take (n - k - 0) (putMid a (a + k - a) r y))) v
-    → Put r pos (replicate n v) (putMid 0 (n - k - 0) (putMid a (a + k - a) r y) z)
-fill-parts r y z pos n v a k full small ea ek hy hz =
-    let l : ℕ = a + k - a in
-    let ly : length y ≡ length (take l (drop a r)) = ap length hy ∙ length-replicate (length (take l (drop a r))) v in
-    let lq : length (putMid a l r y) ≡ length r = same-len-mid a l r y ly in
-    fill-two r y z pos n a k l (n - k - 0) v (length (take l (drop a r))) (length (take (n - k - 0) (putMid a l r y))) full small ea ek (omega arith) (omega arith) hy hz
-    (simp (length-take, length-drop) (omega arith))
-    (simp length-take (omega arith))

@@ -1,7 +1,7 @@
 // 01 section 1: bytes of a stream at their positions in a ring.
 ghost use mathlib.Core.Path.{_≡_};
 ghost use Prim.Native.Nat.{_-_, _%_, _≤_, min};
-ghost use lib.ListN.{length, replicate};
+ghost use lib.ListN.{length};
 ghost use Rattle.ring.specs.Ring.{capacity, Put, Got};
 
 // The bytes of a ring: the byte of position p stands at p % CAPACITY.
@@ -58,18 +58,4 @@ pub fn ring_get(dst: &mut [u8], ring: &[u8], pos: u64)
     let rest = n - k;
     copies::copy(&mut dst[0..k], &ring[at..e]);
     copies::copy(&mut dst[k..n], &ring[0..rest]);
-}
-
-// Sets the n bytes of the ring from the position pos on to v.
-pub fn ring_fill(ring: &mut [u8], pos: u64, n: usize, v: u8)
-    requires { ⌜ length (now ring) ≡ capacity ⌝ }
-    requires { ⌜ n ≤ capacity ⌝ }
-    ensures { λ _. ⌜ Put (now (ring .entry)) pos (replicate n v) (now (ring .exit)) ⌝ }
-{
-    let at = index(pos);
-    let k = before_seam(at, n);
-    let e = at + k;
-    let rest = n - k;
-    copies::fill(&mut ring[at..e], v);
-    copies::fill(&mut ring[0..rest], v);
 }
