@@ -1,8 +1,8 @@
 -- 01 §1, §3, §5, §6: an end, and what its six calls make of it.
-use mathlib.Core.Bool.{Bool, true, false, not, _&&_}
+use mathlib.Core.Bool.{not, _&&_}
 use mathlib.Core.List.{List, [], _∷_, _++_}
 use Prim.Native.Nat.{ℕ, zero, suc, _+_, _-_, min}
-use lib.Dec.{eqb, leb, ltb}
+use lib.Dec.{eqb, ltb}
 use lib.ListN.{length}
 use Rattle.laws.specs.Choice.{if}
 use Rattle.laws.specs.Rows.{when, _orElse_}
@@ -12,7 +12,6 @@ use Rattle.window.specs.Window.{Window, verdictOf, acceptOf}
 use Rattle.window.specs.Window as window
 use Rattle.receiving.specs.Receiving.{Receiving, endedOf, ackPosition, ackCredit}
 use Rattle.receiving.specs.Receiving as receiving
-use Rattle.segments.specs.declared.Tick.{Tick}
 use Rattle.sending.specs.Sending.{datagramsMost, Sending}
 use Rattle.sending.specs.Sending as sending
 use Rattle.sending.specs.Giving as giving

@@ -1,13 +1,11 @@
 -- Laws of answers. Assumes nothing.
-use mathlib.Core.Path.{_≡_, refl, sym, _∙_}
-use mathlib.Core.Bool.{Bool, true, false}
-use Prim.Native.Nat.{ℕ, zero, suc, _-_, _≤_, _<_, _^_}
+use mathlib.Core.Path.{_≡_, refl}
+use Prim.Native.Nat.{ℕ, zero, suc, _-_, _<_}
 use native.Mathlib.Omega.{arith}
-use lib.IntN.{ℤ, pos, negsuc, _-ℤ_, +ℤ-idl}
+use lib.IntN.{pos, negsuc, _-ℤ_, +ℤ-idl}
 use mir.Syntax.{w64}
 use mir.Val.{SFits, toZ, ofZ}
 use mir.ValLaws.{toZ-pos, toZ-ofZ}
-use Rattle.laws.specs.Rows.{when, _orElse_}
 use Rattle.endpoint.specs.Answer.{answerOf}
 
 minus-answer : (r : ℕ) → pos 0 -ℤ pos r ≡ answerOf r 0

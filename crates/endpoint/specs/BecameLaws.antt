@@ -1,10 +1,9 @@
 -- Laws of the end that the table holds after give, finish and take. Assumes nothing.
-use mathlib.Core.Path.{_≡_, refl, sym, ap, _∙_}
+use mathlib.Core.Path.{_≡_, refl, ap, _∙_}
 use mathlib.Core.List.{List}
-use Prim.Native.Nat.{ℕ, _+_, _-_, _≤_, _<_}
+use Prim.Native.Nat.{ℕ, _-_, _≤_}
 use native.Mathlib.Omega.{arith}
 use lib.ListN.{length}
-use lib.IntN.{ℤ}
 use Rattle.laws.specs.Over.{over}
 use Rattle.ring.specs.Ring.{capacity}
 use Rattle.receiving.specs.declared.Scalars.{Scalars}
@@ -12,7 +11,6 @@ use Rattle.receiving.specs.Receiving.{Receiving, receivingOf}
 use Rattle.receiving.specs.Receiving as receiving
 use Rattle.receiving.specs.ReadLaws.{ended-read}
 use Rattle.receiving.specs.Calls.{endedBy}
-use Rattle.segments.specs.declared.Line.{Line}
 use Rattle.sending.specs.Sending.{Sending}
 use Rattle.sending.specs.Giving as giving
 use Rattle.sending.specs.Buffers.{sendingOf}
@@ -20,7 +18,7 @@ use Rattle.sending.specs.Buffers as sending
 use Rattle.sending.specs.BufferLaws.{given-end, finished-end}
 use Rattle.table.specs.declared.Sends.{Sends}
 use Rattle.end.specs.End.{End, withSending, giveOf, givenOf, finishOf, gotOf, takeOf, reachedOf}
-use Rattle.table.specs.Layout.{tableWords, Sections, sectionsOf, commonOf, sendsWords, sendsOf, scalarsWords, scalarsOf, ringOf, endIn, endOf, SoundIn, Sound}
+use Rattle.table.specs.Layout.{Sections, sectionsOf, sendsWords, sendsOf, scalarsWords, scalarsOf, ringOf, endIn, endOf, Sound}
 use Rattle.table.specs.LayoutLaws.{withSends, withReceives, sends-words, scalars-words}
 use Rattle.endpoint.specs.Answer.{answerOf}
 use Rattle.endpoint.specs.Calls.{Became, GaveEnd, TookEnd}

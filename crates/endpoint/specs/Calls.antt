@@ -1,7 +1,7 @@
 -- What each call ensures of what was lent, whatever it holds: refused, all is as it was; done, an end has become what the definition says.
 use mathlib.Core.Path.{_≡_}
 use mathlib.Core.List.{List}
-use Prim.Native.Nat.{ℕ, _≤_, _<_}
+use Prim.Native.Nat.{ℕ, _≤_}
 use lib.IntN.{ℤ}
 use lib.Dec.{ltb}
 use lib.ListN.{length}

@@ -2,44 +2,39 @@
 use mathlib.Core.Path.{_≡_, refl, sym, ap, _∙_}
 use mathlib.Core.Bool.{not}
 use mathlib.Core.List.{List}
-use Prim.Native.Nat.{ℕ, zero, suc, _+_, _-_, _≤_, _<_}
+use Prim.Native.Nat.{ℕ, zero, suc, _≤_}
 use native.Mathlib.Decide.{ℕ-discrete}
 use native.Mathlib.Omega.{arith}
 use lib.Dec.{eqb}
 use lib.IntN.{ℤ}
 use lib.ListN.{length, drop, length-drop}
 use borrow.Author.Tests.{eq-eqb, ne-eqb}
-use Rattle.laws.specs.Choice.{if}
-use Rattle.laws.specs.Rows.{when, _orElse_, branch}
-use Rattle.laws.specs.RowsLaws.{then-eq, else-eq}
-use Rattle.ring.specs.Ring.{capacity}
+use Rattle.laws.specs.Rows.{when, _orElse_}
 use Rattle.wire.specs.declared.Header.{Header}
 use Rattle.wire.specs.Datagram.{headSize, Message, DATA, ACK, PROBE}
-use Rattle.wire.specs.Reading.{fieldsOf, formOf, messageOf, Decoded, refused, read, decodeAs, decode, Fields}
-use Rattle.wire.specs.FormLaws.{Formed, WellFormed, form-formed}
-use Rattle.window.specs.Window.{verdictOf, acceptOf}
+use Rattle.wire.specs.Reading.{fieldsOf, formOf, messageOf, Decoded, refused, read, decodeAs, decode}
+use Rattle.wire.specs.FormLaws.{WellFormed, form-formed}
+use Rattle.window.specs.Window.{verdictOf}
 use Rattle.window.specs.Marks.{windowOf}
-use Rattle.receiving.specs.declared.Scalars.{Scalars}
-use Rattle.receiving.specs.Receiving.{Receiving, receivingOf}
+use Rattle.receiving.specs.Receiving.{Receiving}
 use Rattle.receiving.specs.Receiving as receiving
 use Rattle.receiving.specs.ReadLaws.{refusal-read}
 use Rattle.receiving.specs.Calls.{refusal}
-use Rattle.sending.specs.Sending.{Sending}
 use Rattle.sending.specs.Acking as acking
 use Rattle.sending.specs.Buffers.{sendingOf}
 use Rattle.sending.specs.BufferLaws.{raised, acked-end}
 use Rattle.table.specs.declared.Common.{Common}
 use Rattle.table.specs.declared.Sends.{Sends}
 use Rattle.end.specs.End.{End, placeOf, refusalOf, acceptedOf, acceptIf, answerTo, afterHearing, hearAnswer, hearOf}
-use Rattle.table.specs.Layout.{tableWords, Sections, sectionsOf, commonWords, commonOf, sendsWords, sendsOf, scalarsWords, scalarsOf, ringOf, endIn, endOf, Going, SoundIn, Sound}
+use Rattle.table.specs.Layout.{Sections, sectionsOf, commonWords, commonOf, sendsWords, sendsOf, scalarsWords, scalarsOf, ringOf, endIn, endOf, Going, Sound}
 use Rattle.table.specs.LayoutLaws.{withCommon, withSends, withReceives, withWindow, common-words, sends-words, scalars-words}
-use Rattle.table.specs.ReadyLaws.{Ready, ready-is}
+use Rattle.table.specs.ReadyLaws.{ready-is}
 use Rattle.table.specs.Rows.{readyOf}
 use Rattle.endpoint.specs.Answer.{answerOf}
-use Rattle.endpoint.specs.Calls.{Became, HeardEnd, Hears}
+use Rattle.endpoint.specs.Calls.{Became, Hears}
 use Rattle.endpoint.specs.BecameLaws.{became-as}
-use Rattle.hearing.specs.Hearing.{placeRow, judgeRow, hearRow, noting, Noted, HeardData, HeardAck, DataDone, AckDone, Heard}
-use Rattle.hearing.specs.HearingLaws.{hear-form, form-zero, place-data, place-ack, place-probe, Judged, judged, Hearable, hearable, Hearing, HearReady}
+use Rattle.hearing.specs.Hearing.{placeRow, judgeRow, hearRow, noting, Noted, HeardData, HeardAck, Heard}
+use Rattle.hearing.specs.HearingLaws.{hear-form, form-zero, place-data, place-ack, place-probe, hearable, Hearing, HearReady}
 
 -- THE ANSWER
 payload-length : (d : List ℕ) (h : Header) → h ≡ fieldsOf d → WellFormed d → length (drop headSize d) ≡ h .length

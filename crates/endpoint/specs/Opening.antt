@@ -8,7 +8,7 @@ use Rattle.receiving.specs.Calls as receiving
 use Rattle.sending.specs.Buffers.{freshLine, freshRow}
 use Rattle.table.specs.declared.Common.{Common}
 use Rattle.table.specs.declared.Sends.{Sends}
-use Rattle.table.specs.Layout.{Sections, sectionsOf, commonWords, sendsWords, scalarsWords, scalarsOf, ringOf}
+use Rattle.table.specs.Layout.{sectionsOf, commonWords, sendsWords, scalarsWords, ringOf}
 use Rattle.table.specs.LayoutLaws.{withCommon, withSends, withReceives}
 
 abbrev pub freshCommon : ℕ → ℕ → Common

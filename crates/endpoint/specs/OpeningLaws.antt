@@ -1,30 +1,27 @@
 -- Laws of open. Assumes nothing.
 use mathlib.Core.Path.{_≡_, refl, sym, ap, _∙_}
 use mathlib.Core.List.{List}
-use Prim.Native.Nat.{ℕ, _+_, _≤_, _<_}
+use Prim.Native.Nat.{ℕ, _≤_, _<_}
 use native.Mathlib.Omega.{arith}
-use lib.Dec.{ltb}
 use lib.IntN.{ℤ}
 use lib.ListN.{length}
 use borrow.Rule.Slice.PartMut.{putMid}
-use Rattle.laws.specs.Rows.{when, _orElse_}
 use Rattle.laws.specs.RowsLaws.{row-left, row-right, passed-lt, passed-eq}
 use Rattle.laws.specs.Part.{part}
 use Rattle.laws.specs.PartLaws.{length-put}
 use Rattle.ring.specs.Ring.{capacity}
 use Rattle.window.specs.MarksLaws.{window-fresh}
 use Rattle.receiving.specs.declared.Scalars.{Scalars}
-use Rattle.receiving.specs.Receiving.{receivingOf}
 use Rattle.receiving.specs.Calls as receiving
 use Rattle.segments.specs.declared.Line.{Line}
 use Rattle.segments.specs.declared.Row.{Row}
-use Rattle.sending.specs.Buffers.{sendingOf, freshLine, freshRow}
+use Rattle.sending.specs.Buffers.{freshLine, freshRow}
 use Rattle.sending.specs.BufferLaws.{fresh-end}
 use Rattle.table.specs.declared.Common.{Common}
 use Rattle.table.specs.declared.Sends.{Sends}
-use Rattle.end.specs.End.{End, openOf}
-use Rattle.table.specs.Layout.{tableWords, Sections, sectionsOf, commonWords, commonOf, sendsWords, sendsOf, scalarsWords, scalarsOf, ringOf, endIn, endOf, Going, SoundIn, Sound}
-use Rattle.table.specs.LayoutLaws.{withCommon, withSends, withReceives, common-words, sends-words, scalars-words, common-size, sends-size, scalars-size, put-common, put-sends, put-receives, ring-put, ring-size}
+use Rattle.end.specs.End.{openOf}
+use Rattle.table.specs.Layout.{tableWords, sectionsOf, commonWords, sendsWords, scalarsWords, ringOf, endIn, endOf, Sound}
+use Rattle.table.specs.LayoutLaws.{common-words, sends-words, scalars-words, common-size, sends-size, scalars-size, put-common, put-sends, put-receives, ring-put, ring-size}
 use Rattle.table.specs.Rows.{intervalMost, intervalRow, shortRow}
 use Rattle.endpoint.specs.Answer.{answerOf}
 use Rattle.endpoint.specs.Calls.{openRow, Opens}

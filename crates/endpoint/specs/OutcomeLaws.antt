@@ -2,22 +2,20 @@
 use mathlib.Core.Path.{_≡_, refl, sym, ap, _∙_}
 use mathlib.Core.Bool.{Bool, true, false}
 use mathlib.Core.List.{List}
-use Prim.Native.Nat.{ℕ, zero, suc, _+_, _-_, _≤_, _<_}
+use Prim.Native.Nat.{ℕ, zero, suc, _-_, _≤_, _<_}
 use native.Mathlib.Omega.{arith}
 use lib.IntN.{ℤ}
-use lib.Dec.{ltb}
 use lib.ListN.{length}
 use Rattle.laws.specs.Rows.{when, _orElse_}
-use Rattle.laws.specs.RowsLaws.{row-left, row-right, passed-lt}
 use Rattle.ring.specs.Ring.{capacity}
 use Rattle.receiving.specs.declared.Scalars.{Scalars}
-use Rattle.receiving.specs.Receiving.{endOf, endAt}
+use Rattle.receiving.specs.Receiving.{endOf}
 use Rattle.receiving.specs.ReadLaws.{end-at-small}
 use Rattle.receiving.specs.Calls.{endedBy}
-use Rattle.table.specs.Layout.{Sound, sectionsOf, scalarsOf}
-use Rattle.table.specs.Rows.{outputLeast, intervalRow, shortRow, openedRow, readyOf, outputRow}
+use Rattle.table.specs.Layout.{sectionsOf, scalarsOf}
+use Rattle.table.specs.Rows.{intervalRow, shortRow, openedRow, readyOf}
 use Rattle.endpoint.specs.Answer.{answerOf}
-use Rattle.endpoint.specs.Calls.{Count, openRow, Gives, Finishes, Takes, tickRow}
+use Rattle.endpoint.specs.Calls.{Gives, Finishes, Takes}
 use Rattle.endpoint.specs.Streams.{Finished, Gave, Took}
 use Rattle.endpoint.specs.BecameLaws.{finish-became, give-became, take-became}
 

@@ -1,7 +1,7 @@
 -- Laws of give, finish and take: first of the table, as the code leaves it, then of the end that it holds. Assumes nothing.
-use mathlib.Core.Path.{_≡_, refl, sym, ap, _∙_}
+use mathlib.Core.Path.{_≡_, ap, _∙_}
 use mathlib.Core.List.{List}
-use Prim.Native.Nat.{ℕ, _+_, _-_, _≤_, _<_, min}
+use Prim.Native.Nat.{ℕ, _+_, _≤_}
 use native.Mathlib.Omega.{arith}
 use lib.ListN.{length}
 use borrow.Rule.Slice.PartMut.{putMid}
@@ -10,15 +10,12 @@ use Rattle.laws.specs.PartLaws.{length-put}
 use Rattle.ring.specs.Ring.{capacity}
 use Rattle.wire.specs.Datagram.{ceiling}
 use Rattle.receiving.specs.declared.Scalars.{Scalars}
-use Rattle.receiving.specs.Receiving.{Ranged}
 use Rattle.receiving.specs.Calls as receiving
 use Rattle.segments.specs.declared.Line.{Line}
-use Rattle.segments.specs.declared.Row.{Row}
-use Rattle.sending.specs.Giving.{roomOf}
 use Rattle.sending.specs.GiveLaws.{room-small}
 use Rattle.sending.specs.Outcome as sending
 use Rattle.table.specs.declared.Sends.{Sends}
-use Rattle.table.specs.Layout.{tableWords, Sections, sectionsOf, sendsWords, sendsOf, scalarsWords, scalarsOf, ringOf}
+use Rattle.table.specs.Layout.{tableWords, Sections, sectionsOf, sendsWords, sendsOf, scalarsWords, scalarsOf}
 use Rattle.table.specs.LayoutLaws.{sends-size, scalars-size, put-sends, put-receives, ring-put, ring-size}
 use Rattle.table.specs.ReadyLaws.{Ready}
 use Rattle.endpoint.specs.Streams.{withLine, closed, longer, Finished, Gave, Took}

@@ -1,7 +1,7 @@
 -- What give, finish and take do to the sections of the table of an end that is ready.
 use mathlib.Core.Path.{_≡_}
 use mathlib.Core.List.{List}
-use Prim.Native.Nat.{ℕ, _+_, _-_, _≤_}
+use Prim.Native.Nat.{ℕ, _+_, _≤_}
 use lib.ListN.{length}
 use Rattle.ring.specs.Ring.{capacity}
 use Rattle.receiving.specs.declared.Scalars.{Scalars}
@@ -9,7 +9,7 @@ use Rattle.receiving.specs.Calls as receiving
 use Rattle.sending.specs.Outcome as sending
 use Rattle.segments.specs.declared.Line.{Line}
 use Rattle.table.specs.declared.Sends.{Sends}
-use Rattle.table.specs.Layout.{Sections, sectionsOf, sendsWords, sendsOf, scalarsWords, scalarsOf, ringOf}
+use Rattle.table.specs.Layout.{sectionsOf, sendsWords, sendsOf, scalarsWords, scalarsOf, ringOf}
 use Rattle.table.specs.LayoutLaws.{withSends, withReceives}
 
 -- the sending side's scalars with another line

@@ -2,24 +2,20 @@
 use mathlib.Core.Path.{_≡_, refl, sym, ap, _∙_}
 use mathlib.Core.Bool.{Bool, true, false, _&&_}
 use mathlib.Core.List.{List, [], _∷_, _++_}
-use Prim.Native.Nat.{ℕ, zero, suc, _+_, _-_, _≤_, _<_, min}
+use Prim.Native.Nat.{ℕ, _+_, _-_, _≤_, _<_}
 use native.Mathlib.Omega.{arith}
 use lib.Dec.{eqb, ltb}
 use lib.IntN.{ℤ}
 use lib.ListN.{length, take, drop, length-append}
-use borrow.Rule.Slice.PartMut.{putMid}
 use Rattle.laws.specs.Choice.{if}
-use Rattle.laws.specs.Rows.{when, _orElse_}
-use Rattle.laws.specs.RowsLaws.{row-left, row-right, passed-lt, hit-row, miss-row}
+use Rattle.laws.specs.RowsLaws.{passed-lt, hit-row, miss-row}
 use Rattle.laws.specs.Over.{over}
 use Rattle.ring.specs.Ring.{capacity}
-use Rattle.wire.specs.Datagram.{ceiling, Message, ACK, wire}
-use Rattle.receiving.specs.Receiving.{receivingOf, ackPosition, ackCredit}
+use Rattle.wire.specs.Datagram.{Message, ACK, wire}
+use Rattle.receiving.specs.Receiving.{ackPosition, ackCredit}
 use Rattle.receiving.specs.ReadLaws.{position-read, credit-read}
 use Rattle.receiving.specs.Calls.{positionBy, creditBy}
-use Rattle.segments.specs.declared.Tick.{Tick}
-use Rattle.sending.specs.declared.Sent.{Sent}
-use Rattle.sending.specs.Sending.{datagramsMost, Sending}
+use Rattle.sending.specs.Sending.{Sending}
 use Rattle.sending.specs.Steps.{Sends, sendOf}
 use Rattle.sending.specs.Buffers.{sendingOf}
 use Rattle.sending.specs.BufferLaws.{moved, SentEnd, sent-end}
@@ -27,14 +23,14 @@ use Rattle.segments.specs.WireLaws.{wire-append, over-rest}
 use Rattle.table.specs.declared.Common.{Common}
 use Rattle.table.specs.declared.Sends as declared
 use Rattle.end.specs.End.{End, clockOf, allowanceOf, ackOf, stepOf, sentOf, tickOf, outputOf}
-use Rattle.table.specs.Layout.{tableWords, Sections, sectionsOf, commonWords, commonOf, sendsWords, sendsOf, scalarsOf, ringOf, endIn, endOf, Going, SoundIn, Sound}
+use Rattle.table.specs.Layout.{Sections, sectionsOf, commonWords, commonOf, sendsWords, sendsOf, scalarsOf, ringOf, endIn, endOf, Going, Sound}
 use Rattle.table.specs.LayoutLaws.{withCommon, withSends, withEnds, withTimes, common-words, sends-words}
 use Rattle.table.specs.Rows.{outputLeast, readyOf, outputRow}
-use Rattle.table.specs.ReadyLaws.{Ready, ready-is, sound-ready}
+use Rattle.table.specs.ReadyLaws.{ready-is}
 use Rattle.endpoint.specs.Answer.{answerOf}
-use Rattle.endpoint.specs.Calls.{Became, Count, tickRow, TickedEnd, Ticks}
-use Rattle.endpoint.specs.OutcomeLaws.{or-small, at-most, ready-most}
-use Rattle.ticking.specs.Ticking.{clockBy, allowanceBy, acksBy, mayOf, acksOf, workOf, stampOf, ackMessages, AckOver, SegmentsSent, TickReady, ticking, Ticked}
+use Rattle.endpoint.specs.Calls.{tickRow, TickedEnd, Ticks}
+use Rattle.endpoint.specs.OutcomeLaws.{at-most}
+use Rattle.ticking.specs.Ticking.{clockBy, allowanceBy, acksBy, mayOf, acksOf, workOf, stampOf, ackMessages, TickReady, ticking, Ticked}
 use Rattle.ticking.specs.TickingLaws.{allowance-numbers, acks-few}
 
 -- WHAT A TICK GOES BY is the definition's

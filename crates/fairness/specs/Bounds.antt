@@ -1,5 +1,5 @@
 -- 03 §3: the bounds, in ticks.
-use Prim.Native.Nat.{ℕ, _+_, _-_, _*_}
+use Prim.Native.Nat.{ℕ, _+_, _*_}
 
 -- until every byte of the oldest segment has arrived at the peer
 abbrev pub handTicks : ℕ → ℕ → ℕ → ℕ

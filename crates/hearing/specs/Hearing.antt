@@ -2,11 +2,10 @@
 use mathlib.Core.Bool.{not}
 use mathlib.Core.Path.{_≡_}
 use mathlib.Core.List.{List}
-use Prim.Native.Nat.{ℕ, _+_, _≤_}
+use Prim.Native.Nat.{ℕ, _+_}
 use lib.Dec.{eqb}
 use lib.ListN.{length, drop}
 use Rattle.laws.specs.Rows.{when, _orElse_, branch}
-use Rattle.ring.specs.Ring.{capacity}
 use Rattle.wire.specs.declared.Header.{Header}
 use Rattle.wire.specs.Datagram.{headSize}
 use Rattle.wire.specs.Reading.{fieldsOf, formOf}
@@ -20,7 +19,6 @@ use Rattle.sending.specs.Acking.{ackRefusal}
 use Rattle.sending.specs.Outcome as sending
 use Rattle.sending.specs.BufferLaws.{raised}
 use Rattle.table.specs.declared.Common.{Common}
-use Rattle.table.specs.declared.Sends.{Sends}
 use Rattle.table.specs.Layout.{Sections, sectionsOf, commonWords, commonOf, sendsWords, sendsOf, scalarsWords, scalarsOf, ringOf}
 use Rattle.table.specs.LayoutLaws.{withCommon, withSends, withReceives, withWindow}
 

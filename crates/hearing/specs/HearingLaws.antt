@@ -1,15 +1,11 @@
 -- Laws of a datagram's judgement and of what is noted of it, over the sections of the table. Assumes nothing.
 use mathlib.Core.Path.{_≡_, refl, sym, ap, _∙_}
-use mathlib.Core.Bool.{not}
 use mathlib.Core.List.{List}
 use Prim.Native.Nat.{ℕ, _+_, _-_, _*_, _≤_, _<_}
-use native.Mathlib.Decide.{ℕ-discrete}
 use native.Mathlib.Omega.{arith}
-use lib.Dec.{eqb}
 use lib.ListN.{length, take, drop, length-drop}
 use lib.Seq.{take-all}
 use borrow.Rule.Slice.PartMut.{putMid}
-use Rattle.laws.specs.Rows.{when, _orElse_, branch}
 use Rattle.laws.specs.RowsLaws.{hit-ne, miss-ne, hit-row, miss-row, then-eq, else-eq, row-left, row-right, passed-ne, passed-lt}
 use Rattle.laws.specs.Part.{part}
 use Rattle.laws.specs.PartLaws.{length-put}
@@ -17,12 +13,11 @@ use Rattle.ring.specs.Ring.{capacity}
 use Rattle.wire.specs.declared.Header.{Header}
 use Rattle.wire.specs.Datagram.{headSize, payloadMost, ceiling}
 use Rattle.wire.specs.Reading.{fieldsOf, formOf, Fields}
-use Rattle.wire.specs.FormLaws.{Formed, WellFormed, form-formed}
+use Rattle.wire.specs.FormLaws.{WellFormed, form-formed}
 use Rattle.window.specs.Window.{width, verdictOf}
 use Rattle.window.specs.Marks.{windowOf, Accepts}
 use Rattle.window.specs.MarksLaws.{new-near, new-some}
 use Rattle.receiving.specs.declared.Scalars.{Scalars}
-use Rattle.receiving.specs.Receiving.{Ranged}
 use Rattle.receiving.specs.RefusalLaws.{judge-room}
 use Rattle.receiving.specs.Calls as receiving
 use Rattle.segments.specs.declared.Row.{Row}
@@ -33,8 +28,8 @@ use Rattle.sending.specs.Outcome as sending
 use Rattle.sending.specs.BufferLaws.{raised}
 use Rattle.table.specs.declared.Common.{Common}
 use Rattle.table.specs.declared.Sends.{Sends}
-use Rattle.table.specs.Layout.{tableWords, Sections, sectionsOf, commonWords, commonOf, sendsWords, sendsOf, scalarsWords, scalarsOf, ringOf}
-use Rattle.table.specs.LayoutLaws.{withCommon, withWindow, common-size, sends-size, scalars-size, put-common, put-sends, put-receives, put-window, window-size, ring-put, ring-size}
+use Rattle.table.specs.Layout.{tableWords, Sections, sectionsOf, commonWords, commonOf, sendsWords, sendsOf, scalarsWords, scalarsOf}
+use Rattle.table.specs.LayoutLaws.{common-size, sends-size, scalars-size, put-common, put-sends, put-receives, put-window, window-size, ring-put, ring-size}
 use Rattle.table.specs.ReadyLaws.{ready-ranged}
 use Rattle.table.specs.ReadyLaws.{Ready}
 use Rattle.hearing.specs.Hearing.{placeRow, judgeRow, hearRow, noting, Noted, DataDone, AckDone, Heard}

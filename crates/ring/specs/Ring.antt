@@ -1,7 +1,7 @@
 -- 01 §1: a ring of 65,536 bytes, in which the byte of position p stands at p % 65,536.
 use mathlib.Core.Path.{_≡_}
 use mathlib.Core.List.{List, [], _∷_}
-use Prim.Native.Nat.{ℕ, zero, suc, _+_, _<_, _≤_, _%_}
+use Prim.Native.Nat.{ℕ, zero, suc, _+_, _<_, _%_}
 use lib.ListN.{length, getD}
 
 abbrev pub capacity : ℕ

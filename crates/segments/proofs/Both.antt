@@ -13,7 +13,7 @@ use Rattle.segments.specs.declared.Row.{Row}
 use Rattle.segments.specs.declared.Wrote.{Wrote}
 use Rattle.segments.specs.declared.Added.{Added}
 use Rattle.segments.specs.Segments.{segs}
-use Rattle.segments.specs.Steps.{resendOf, Cut, cutOf, cutsOf}
+use Rattle.segments.specs.Steps.{resendOf, cutOf, cutsOf}
 use Rattle.segments.specs.Outcome.{DidResend, DidCut}
 use Rattle.segments.specs.WireLaws.{wire-append, over-rest}
 use Rattle.segments.specs.StepLaws.{cut-same}

@@ -1,7 +1,7 @@
 -- Where everything stands in the lent table, written once: six sections of words, one after the other.
 use mathlib.Core.Path.{_≡_}
 use mathlib.Core.List.{List, [], _∷_}
-use Prim.Native.Nat.{ℕ, _+_, _≤_, _<_}
+use Prim.Native.Nat.{ℕ, _≤_, _<_}
 use lib.ListN.{length, getD}
 use Rattle.laws.specs.Part.{part}
 use Rattle.ring.specs.Ring.{capacity}
@@ -10,8 +10,6 @@ use Rattle.window.specs.Marks.{windowOf}
 use Rattle.receiving.specs.declared.Scalars.{Scalars}
 use Rattle.receiving.specs.Receiving.{receivingOf}
 use Rattle.receiving.specs.Receiving as receiving
-use Rattle.segments.specs.declared.Line.{Line}
-use Rattle.segments.specs.declared.Row.{Row}
 use Rattle.sending.specs.Buffers.{sendingOf}
 use Rattle.sending.specs.Buffers as sending
 use Rattle.table.specs.declared.Common.{Common}

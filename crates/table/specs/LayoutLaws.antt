@@ -1,12 +1,11 @@
 -- Laws of the table: what was saved is what is loaded, and nothing else moves. Assumes nothing.
-use mathlib.Core.Path.{_≡_, refl, sym, ap, _∙_}
-use mathlib.Core.List.{List, [], _∷_, _++_}
-use Prim.Native.Nat.{ℕ, _+_, _-_, _≤_, _<_}
+use mathlib.Core.Path.{_≡_, refl}
+use mathlib.Core.List.{List}
+use Prim.Native.Nat.{ℕ, _+_, _-_, _≤_}
 use native.Mathlib.Omega.{arith}
-use lib.ListN.{length, take, drop}
+use lib.ListN.{length}
 use borrow.Rule.Slice.PartMut.{putMid}
-use Rattle.laws.specs.Part.{part}
-use Rattle.laws.specs.PartLaws.{length-part, part-here, length-put, part-before, part-after}
+use Rattle.laws.specs.PartLaws.{length-part, part-here, part-before, part-after}
 use Rattle.ring.specs.Ring.{capacity}
 use Rattle.receiving.specs.declared.Scalars.{Scalars}
 use Rattle.table.specs.declared.Common.{Common}

@@ -1,13 +1,12 @@
 -- Laws of refusals 11 and 12: what an answer of 0 says of the table, and that an end is never taken for none. Assumes nothing.
-use mathlib.Core.Path.{_≡_, refl, sym, ap, _∙_}
+use mathlib.Core.Path.{_≡_, refl, sym, _∙_}
 use mathlib.Core.Bool.{Bool, true, false, not}
 use mathlib.Core.List.{List}
-use Prim.Native.Nat.{ℕ, _+_, _-_, _≤_, _<_}
+use Prim.Native.Nat.{ℕ, _+_, _≤_}
 use native.Mathlib.Omega.{arith}
-use lib.Dec.{eqb, leb, ltb}
 use lib.ListN.{length}
 use borrow.Author.Tests.{eqb-true, leb-true, ltb-true, eq-eqb, le-leb, lt-ltb}
-use Rattle.laws.specs.Rows.{when, _orElse_}
+use Rattle.laws.specs.Rows.{when}
 use Rattle.laws.specs.RowsLaws.{hit-row, miss-row, row-left, row-right, passed-lt, and-left, and-right, both, and-fails, and-passes, same-test}
 use Rattle.ring.specs.Ring.{capacity}
 use Rattle.wire.specs.Datagram.{ceiling}

@@ -1,7 +1,7 @@
 -- 01 §3: refusals 10 to 13, as rows in the settled order.
 use mathlib.Core.Bool.{Bool, not}
 use mathlib.Core.List.{List}
-use Prim.Native.Nat.{ℕ, _+_, _-_}
+use Prim.Native.Nat.{ℕ, _+_}
 use lib.Dec.{eqb, leb, ltb}
 use lib.ListN.{length}
 use Rattle.laws.specs.Rows.{when, _orElse_, _and_}

@@ -1,8 +1,8 @@
 -- Laws of a tick, over the sections of the table. Assumes nothing.
 use mathlib.Core.Path.{_≡_, refl, sym, ap, _∙_}
 use mathlib.Core.Bool.{Bool, true, false, _&&_}
-use mathlib.Core.List.{List, [], _∷_, _++_, append-nil}
-use Prim.Native.Nat.{ℕ, zero, suc, _+_, _-_, _*_, _≤_, _<_, min}
+use mathlib.Core.List.{List, append-nil}
+use Prim.Native.Nat.{ℕ, _+_, _-_, _*_, _≤_, _<_}
 use native.Mathlib.Nat.{add-zero}
 use native.Mathlib.Omega.{arith}
 use lib.Dec.{eqb, ltb}
@@ -11,29 +11,29 @@ use borrow.Author.Tests.{lt-ltb, le-ltb, eq-eqb, ne-eqb, eqb-true, ltb-true}
 use borrow.Rule.Slice.PartMut.{putMid}
 use Rattle.laws.specs.Choice.{if, if-case}
 use Rattle.laws.specs.Rows.{when}
-use Rattle.laws.specs.Over.{over, Over}
+use Rattle.laws.specs.Over.{over}
 use Rattle.laws.specs.OverLaws.{over-none, over-more, over-length}
 use Rattle.laws.specs.Part.{part}
 use Rattle.laws.specs.PartLaws.{length-part, length-put}
 use Rattle.ring.specs.Ring.{capacity}
-use Rattle.wire.specs.Datagram.{headSize, ceiling, Message, ACK, kindOf, flagsOf, positionOf, creditOf, payloadOf, headOf, headerOf, encode, wire}
+use Rattle.wire.specs.Datagram.{headSize, ceiling, ACK, kindOf, flagsOf, positionOf, creditOf, payloadOf, headOf, headerOf, encode, wire}
 use Rattle.wire.specs.DatagramLaws.{encode-length}
 use Rattle.receiving.specs.declared.Scalars.{Scalars}
 use Rattle.receiving.specs.Calls.{positionBy, creditBy}
 use Rattle.segments.specs.declared.Tick.{Tick}
 use Rattle.segments.specs.declared.Stamp.{Stamp}
 use Rattle.sending.specs.declared.Sent.{Sent}
-use Rattle.sending.specs.Sending.{segmentsMost, datagramsMost}
+use Rattle.sending.specs.Sending.{datagramsMost}
 use Rattle.sending.specs.Outcome.{datagramMost, Room, Sends}
 use Rattle.sending.specs.BufferLaws.{moved}
 use Rattle.table.specs.declared.Common.{Common}
 use Rattle.table.specs.declared.Sends as declared
 use Rattle.ticking.specs.declared.Plan.{Plan}
-use Rattle.table.specs.Layout.{tableWords, Sections, sectionsOf, commonWords, commonOf, sendsWords, sendsOf, scalarsOf, ringOf, Going}
-use Rattle.table.specs.LayoutLaws.{withCommon, withSends, withEnds, withTimes, common-size, sends-size, put-common, put-sends, put-ends, put-times, ends-size, times-size, ring-size}
+use Rattle.table.specs.Layout.{tableWords, Sections, sectionsOf, commonWords, commonOf, sendsWords, sendsOf, scalarsOf, ringOf}
+use Rattle.table.specs.LayoutLaws.{common-size, sends-size, put-common, put-sends, put-ends, put-times, ends-size, times-size, ring-size}
 use Rattle.table.specs.Rows.{outputLeast, outputRow}
 use Rattle.table.specs.ReadyLaws.{Ready}
-use Rattle.ticking.specs.Ticking.{clockBy, allowanceBy, acksBy, AckSent, SendReady, SegmentsSent, mayOf, acksOf, Planned, workOf, stampOf, ackMessages, AckReady, AckOver, TickReady, ticking, Ticked}
+use Rattle.ticking.specs.Ticking.{clockBy, allowanceBy, acksBy, AckSent, SendReady, SegmentsSent, mayOf, Planned, ackMessages, AckReady, AckOver, TickReady, ticking, Ticked}
 
 -- THE NUMBERS, as the code computes them
 pub output-short : (n : ℕ) → n < outputLeast → 13 ≡ outputRow n

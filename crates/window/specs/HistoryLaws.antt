@@ -1,13 +1,13 @@
 -- What section 4 is for: a number that was accepted once is never new again, and one of the window that was not is new. Assumes nothing.
-use mathlib.Core.Path.{_≡_, refl, _∙_, sym}
+use mathlib.Core.Path.{_≡_, refl, _∙_}
 use mathlib.Core.Logic.{⊎-elim}
 use mathlib.Core.List.{List, [], _∷_, List·Memᴰ, List·Memᴰ·head, List·Memᴰ·tail, List·Memᴰ·cases-cons, List·Memᴰ·not-nil}
-use Prim.Native.Nat.{ℕ, zero, suc, _+_, _-_, _≤_, _<_, max}
+use Prim.Native.Nat.{ℕ, _+_, _-_, _≤_, _<_}
 use native.Mathlib.Decide.{ℕ-discrete, decLe}
 use native.Mathlib.Omega.{arith}
 use lib.ListN.{length}
 use Rattle.window.specs.Window.{width, Window, fresh, seenOf, verdictOf, acceptOf}
-use Rattle.window.specs.WindowLaws.{length-unseen, unseen-at, New, new-is, is-new, Accepted, accept-accepted}
+use Rattle.window.specs.WindowLaws.{length-unseen, unseen-at, new-is, is-new, Accepted, accept-accepted}
 use Rattle.window.specs.History.{Reached, none, more}
 
 -- what a history says of its window

@@ -1,6 +1,6 @@
 -- Laws of the window that marks keep. Assumes nothing.
 use mathlib.Core.Path.{_≡_, refl, sym, ap, _∙_}
-use mathlib.Core.List.{List, [], _∷_, _++_}
+use mathlib.Core.List.{List}
 use Prim.Native.Nat.{ℕ, zero, suc, _+_, _-_, _≤_, _<_, max}
 use native.Mathlib.Nat.{le-of-suc-le-suc, not-suc-le-zero, sub-zero}
 use native.Mathlib.Decide.{ℕ-discrete, decLt}

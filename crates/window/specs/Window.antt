@@ -1,6 +1,6 @@
 -- 01 §4: numbers, taken at most once.
 use mathlib.Core.Bool.{not}
-use mathlib.Core.List.{List, [], _∷_, _++_}
+use mathlib.Core.List.{List, _∷_, _++_}
 use Prim.Native.Nat.{ℕ, _-_, _+_}
 use lib.Dec.{eqb, ltb, leb}
 use lib.ListN.{getD, set, take, replicate}

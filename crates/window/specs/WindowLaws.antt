@@ -1,18 +1,15 @@
 -- Laws of the window. Assumes nothing.
-use mathlib.Core.Path.{_≡_, refl, sym, ap, _∙_}
-use mathlib.Core.Bool.{not}
-use mathlib.Core.List.{List, [], _∷_, _++_}
-use Prim.Native.Nat.{ℕ, zero, suc, _+_, _-_, _≤_, _<_, max}
+use mathlib.Core.Path.{_≡_, sym, _∙_}
+use mathlib.Core.List.{List, _∷_, _++_}
+use Prim.Native.Nat.{ℕ, suc, _+_, _-_, _≤_, _<_, max}
 use native.Mathlib.Nat.{sub-self}
 use native.Mathlib.Decide.{ℕ-discrete, decLt}
 use native.Mathlib.Omega.{arith}
-use lib.Dec.{eqb, ltb, leb}
-use lib.ListN.{length, getD, set, take, replicate, length-append, length-replicate, getD-replicate, length-set, List·getD-append}
+use lib.ListN.{length, getD, set, length-append, length-replicate, getD-replicate, length-set, List·getD-append}
 use lib.Seq.{getD-take, getD-set-same, getD-set-other, getD-append-add, length-take-le}
 use borrow.Author.Tests.{lt-ltb, le-ltb, le-leb, lt-leb, eq-eqb, ne-eqb}
-use Rattle.laws.specs.Choice.{if}
 use Rattle.laws.specs.Rows.{when, _orElse_, branch}
-use Rattle.window.specs.Window.{width, Window, unseen, fresh, seenOf, verdictOf, slide, acceptOf}
+use Rattle.window.specs.Window.{width, Window, unseen, seenOf, verdictOf, slide, acceptOf}
 
 -- THE LISTS
 

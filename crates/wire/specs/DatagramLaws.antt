@@ -1,12 +1,11 @@
 -- Laws of the bytes of numbers and datagrams. Assumes nothing.
-use mathlib.Core.Path.{_≡_, refl, sym, ap, _∙_}
-use mathlib.Core.List.{List, [], _∷_, _++_}
-use Prim.Native.Nat.{ℕ, zero, suc, _+_, _-_, _*_, _/_, _%_, _^_, _≤_, _<_}
+use mathlib.Core.Path.{_≡_, refl, ap, _∙_}
+use Prim.Native.Nat.{ℕ, zero, suc, _+_, _-_, _*_, _/_, _%_, _^_, _<_}
 use native.Mathlib.Nat.{le-of-suc-le-suc, not-suc-le-zero}
 use native.Mathlib.Omega.{arith}
 use lib.ListN.{length, getD, length-append}
 use Rattle.wire.specs.declared.Header.{Header}
-use Rattle.wire.specs.Datagram.{headSize, Message, payloadOf, be, startOf, restOf, headOf, headerOf, encode}
+use Rattle.wire.specs.Datagram.{headSize, Message, payloadOf, be, startOf, restOf, headOf, encode}
 
 pub be-length : (n v : ℕ) → length (be n v) ≡ n
 unfolding be

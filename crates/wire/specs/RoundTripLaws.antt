@@ -1,24 +1,21 @@
 -- 01 §2: what is encoded decodes to the same, and what decodes encodes back to the same bytes. Assumes nothing.
 use mathlib.Core.Path.{_≡_, refl, ap, sym, _∙_}
-use mathlib.Core.Bool.{Bool, true, false, not}
-use mathlib.Core.List.{List, [], _∷_, _++_, append-assoc, append-nil}
+use mathlib.Core.List.{List, [], _∷_, _++_}
 use Prim.Native.Nat.{ℕ, zero, suc, _+_, _-_, _*_, _/_, _%_, _^_, _≤_, _<_}
 use native.Mathlib.Decide.{ℕ-discrete}
 use native.Mathlib.Nat.{sub-self, div-one}
 use native.Mathlib.Omega.{arith}
-use lib.Dec.{eqb, ltb}
 use lib.Pow.{shr-shr}
-use lib.ListN.{length, getD, take, drop, length-append, length-drop, take-append-drop}
+use lib.ListN.{length, getD, take, drop, length-drop, take-append-drop}
 use lib.Seq.{ext-getD, getD-take, getD-drop, take-add, drop-drop, length-take-le, drop-at}
 use borrow.Author.Tests.{eq-eqb, ne-eqb, le-ltb}
-use Rattle.laws.specs.Choice.{if}
 use Rattle.laws.specs.Rows.{when, _orElse_, branch}
 use Rattle.laws.specs.RowsLaws.{miss-lt}
 use Rattle.wire.specs.declared.Header.{Header}
-use Rattle.wire.specs.Datagram.{headSize, payloadMost, Message, DATA, ACK, PROBE, Sendable, kindOf, flagsOf, positionOf, creditOf, payloadOf, be, startOf, restOf, headOf, headerOf, encode}
+use Rattle.wire.specs.Datagram.{headSize, payloadMost, Message, DATA, ACK, PROBE, Sendable, kindOf, flagsOf, positionOf, creditOf, payloadOf, be, headOf, headerOf, encode}
 use Rattle.wire.specs.Datagram.Sendable.{a-DATA, an-ACK, a-PROBE}
 use Rattle.wire.specs.DatagramLaws.{be-length, be-at, head-length, encode-length}
-use Rattle.wire.specs.Reading.{num, fieldsOf, dataRow, plainRow, rowsOf, formOf, messageOf, Decoded, read, refused, decodeAs, decode}
+use Rattle.wire.specs.Reading.{num, fieldsOf, dataRow, plainRow, rowsOf, formOf, messageOf, read, decodeAs, decode}
 use Rattle.wire.specs.ReadingLaws.{Narrow, fields-head, same-fields}
 use Rattle.wire.specs.FormLaws.{Formed, WellFormed, form-formed}
 

@@ -1,6 +1,5 @@
 -- `sending::ack` meets its contract. Assumes nothing.
 use Rattle.sending.proofs.Acking.{Acking, acking-none, acking-more, acking-stop, acking-all}
-use Prim.Native.Nat.{_-_}
 use borrow.Author.Needs.{needs}
 use Rattle.sending.proofs.ack.Statement.{statement}
 use Rattle.sending.proofs.ack.Tie as tie

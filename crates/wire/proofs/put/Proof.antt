@@ -1,7 +1,5 @@
 -- `wire::put` meets its contract. Assumes nothing.
-use mathlib.Core.Path.{_≡_}
-use Prim.Native.Nat.{_+_, _*_, _-_, _^_, _≤_, _<_}
-use native.Mathlib.Omega.{arith}
+use Prim.Native.Nat.{_-_, _≤_}
 use borrow.Author.Needs.{needs}
 use Rattle.wire.proofs.Bytes.{Putting, putting-none, putting-more, putting-all}
 use Rattle.wire.proofs.put.Statement.{statement}

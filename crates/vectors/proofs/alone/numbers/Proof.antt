@@ -1,7 +1,6 @@
 -- `vectors::alone::numbers` meets its contract. Assumes nothing.
 use borrow.Author.Needs.{needs}
-use mathlib.Core.Path.{_≡_}
-use Prim.Native.Nat.{_+_, _*_, _-_, _≤_, _<_}
+use Prim.Native.Nat.{_-_, _≤_}
 use lib.ListN.{length}
 use Rattle.vectors.proofs.alone.numbers.Statement.{statement}
 use Rattle.vectors.proofs.alone.numbers.Tie as tie

@@ -1,7 +1,7 @@
 -- `vectors::ends::ticks` meets its contract. Assumes nothing.
 use borrow.Author.Needs.{needs}
 use mathlib.Core.Path.{_≡_}
-use Prim.Native.Nat.{_+_, _*_, _-_, _≤_, _<_}
+use Prim.Native.Nat.{_-_, _≤_}
 use lib.ListN.{length}
 use Rattle.vectors.proofs.ends.ticks.Statement.{statement}
 use Rattle.vectors.proofs.ends.ticks.Tie as tie

@@ -1,7 +1,6 @@
 -- `vectors::script::word` meets its contract. Assumes nothing.
 use borrow.Author.Needs.{needs}
-use mathlib.Core.Path.{_≡_}
-use Prim.Native.Nat.{_+_, _*_, _-_, _≤_, _<_}
+use Prim.Native.Nat.{_-_, _≤_}
 use lib.ListN.{length}
 use Rattle.vectors.proofs.script.word.Statement.{statement}
 use Rattle.vectors.proofs.script.word.Tie as tie

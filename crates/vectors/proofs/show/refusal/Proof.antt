@@ -1,9 +1,7 @@
 -- `vectors::show::refusal` meets its contract. Assumes nothing.
 use borrow.Author.Needs.{needs}
 use Rattle.endpoint.specs.AnswerLaws.{refusal-fits}
-use mathlib.Core.Path.{_≡_}
-use Prim.Native.Nat.{_+_, _*_, _-_, _≤_, _<_}
-use lib.ListN.{length}
+use Prim.Native.Nat.{_-_, _≤_}
 use Rattle.vectors.proofs.show.refusal.Statement.{statement}
 use Rattle.vectors.proofs.show.refusal.Tie as tie
 

@@ -1,7 +1,6 @@
 -- `vectors::show::same` meets its contract. Assumes nothing.
 use borrow.Author.Needs.{needs}
-use mathlib.Core.Path.{_≡_}
-use Prim.Native.Nat.{_+_, _*_, _-_, _≤_, _<_}
+use Prim.Native.Nat.{_-_, _≤_}
 use lib.ListN.{length}
 use Rattle.vectors.proofs.show.same.Statement.{statement}
 use Rattle.vectors.proofs.show.same.Tie as tie
