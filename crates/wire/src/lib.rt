@@ -23,8 +23,8 @@ pub struct Header {
     pub credit: u64,
 }
 
-// The n bytes of v, the highest first, in all of s.
-fn put(s: &mut [u8], n: usize, v: u64)
+// The n bytes of v, the highest first, in all of s, one by one.
+fn digits(s: &mut [u8], n: usize, v: u64)
     requires { ⌜ (n ≤ 8) × (length (now s) ≡ n) ⌝ }
     ensures { λ _. ⌜ now (s .exit) ≡ be n v ⌝ }
 {
@@ -34,6 +34,23 @@ fn put(s: &mut [u8], n: usize, v: u64)
         s[i] = ((v >> k) % 256) as u8;
         i += 1;
     }
+}
+
+// The same through t, so that they are stored at once.
+fn put_through(t: &mut [u8], s: &mut [u8], n: usize, v: u64)
+    requires { ⌜ (n ≤ 8) × ((length (now t) ≡ 8) × (length (now s) ≡ n)) ⌝ }
+    ensures { λ _. ⌜ now (s .exit) ≡ be n v ⌝ }
+{
+    digits(&mut t[0..n], n, v);
+    copies::copy(s, &t[0..n]);
+}
+
+fn put(s: &mut [u8], n: usize, v: u64)
+    requires { ⌜ (n ≤ 8) × (length (now s) ≡ n) ⌝ }
+    ensures { λ _. ⌜ now (s .exit) ≡ be n v ⌝ }
+{
+    let mut t = [0u8; 8];
+    put_through(&mut t, s, n, v);
 }
 
 fn write_start(out: &mut [u8], h: Header)
@@ -64,8 +81,8 @@ pub fn write(out: &mut [u8], h: Header)
     write_rest(&mut out[12..32], h);
 }
 
-// The number of n bytes at `at`, the highest first.
-fn get(s: &[u8], at: usize, n: usize) -> u64
+// The number of n bytes at `at`, the highest first, one by one.
+fn value(s: &[u8], at: usize, n: usize) -> u64
     requires { ⌜ (n ≤ 8) × (at + n ≤ length (now s)) ⌝ }
     ensures { λ r. ⌜ Got (now (s .entry)) at n r ⌝ }
 {
@@ -76,6 +93,23 @@ fn get(s: &[u8], at: usize, n: usize) -> u64
         i += 1;
     }
     v
+}
+
+// The same through t, so that they are loaded at once.
+fn get_through(t: &mut [u8], s: &[u8], at: usize, n: usize) -> u64
+    requires { ⌜ (n ≤ 8) × ((length (now t) ≡ 8) × (at + n ≤ length (now s))) ⌝ }
+    ensures { λ r. ⌜ Got (now (s .entry)) at n r ⌝ }
+{
+    copies::copy(&mut t[0..n], &s[at..at + n]);
+    value(t, 0, n)
+}
+
+fn get(s: &[u8], at: usize, n: usize) -> u64
+    requires { ⌜ (n ≤ 8) × (at + n ≤ length (now s)) ⌝ }
+    ensures { λ r. ⌜ Got (now (s .entry)) at n r ⌝ }
+{
+    let mut t = [0u8; 8];
+    get_through(&mut t, s, at, n)
 }
 
 // The fields of a datagram that has a whole header.
