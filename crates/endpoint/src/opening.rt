@@ -41,7 +41,7 @@ fn save_all(t: &mut [u64], c: Common, s: Sends, v: Scalars)
 {
     save_common(&mut t[0..7], c);
     save_sends(&mut t[7..15], s);
-    save_scalars(&mut t[15..20], v);
+    save_scalars(&mut t[15..21], v);
 }
 
 pub fn open_end(t: &mut [u64], marks: &mut [u8], epoch: u64, interval: u64)

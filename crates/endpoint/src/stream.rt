@@ -61,6 +61,6 @@ pub fn take(t: &mut [u64], incoming: &[u8], out: &mut [u8]) -> Scalars
     let s = scalars_in(t);
     let k = ring::size();
     let v = filling::take(&incoming[0..k], s, out);
-    save_scalars(&mut t[15..20], v);
+    save_scalars(&mut t[15..21], v);
     v
 }

@@ -46,7 +46,7 @@ fn judge(t: &[u64], h: Header) -> u64
     if h.epoch != c.epoch {
         return 3;
     }
-    let v = window::verdict(c.high, &t[20..36], h.number);
+    let v = window::verdict(c.high, &t[21..37], h.number);
     if v != 0 {
         return v;
     }
@@ -71,7 +71,7 @@ fn note(t: &mut [u64], number: u64, due: u64)
     ensures { λ _. ⌜ Noted (now (t .entry)) number due (now (t .exit)) ⌝ }
 {
     let c = common_in(t);
-    let high = window::accept(c.high, &mut t[20..36], number);
+    let high = window::accept(c.high, &mut t[21..37], number);
     let n = Common {
         opened: c.opened,
         epoch: c.epoch,
@@ -102,7 +102,7 @@ fn data(t: &mut [u64], incoming: &mut [u8], marks: &mut [u8], d: &[u8], h: Heade
     );
     let number = h.number;
     note(t, number, 1);
-    save_scalars(&mut t[15..20], v);
+    save_scalars(&mut t[15..21], v);
 }
 
 // An accepted ACK.
@@ -117,7 +117,7 @@ fn ack(t: &mut [u64], h: Header)
     let s = sends_in(t);
     let row = s.row;
     let line = s.line;
-    let r = sending::ack(&t[36..100], row, h.position);
+    let r = sending::ack(&t[37..101], row, h.position);
     let g = sending::grant(line.limit, s.probed, h.position + h.credit);
     let raised = Line {
         given: line.given,

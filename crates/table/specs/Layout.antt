@@ -17,7 +17,7 @@ use Rattle.table.specs.declared.Sends.{Sends}
 use Rattle.end.specs.End.{End}
 
 abbrev pub tableWords : ℕ
-tableWords = 164
+tableWords = 165
 
 pub record Sections : Type 0 where
   pub common : List ℕ
@@ -31,10 +31,10 @@ unfoldable pub sectionsOf : List ℕ → Sections
 sectionsOf t = record {
   common = part 0 7 t;
   sends = part 7 8 t;
-  receives = part 15 5 t;
-  window = part 20 16 t;
-  ends = part 36 64 t;
-  times = part 100 64 t;
+  receives = part 15 6 t;
+  window = part 21 16 t;
+  ends = part 37 64 t;
+  times = part 101 64 t;
 }
 
 -- the words of a section, and what they are read as
@@ -64,15 +64,16 @@ sendsOf w = record {
 }
 
 unfoldable pub scalarsWords : Scalars → List ℕ
-scalarsWords s = s .taken ∷ s .low ∷ s .high ∷ s .known ∷ s .end ∷ []
+scalarsWords s = s .taken ∷ s .low ∷ s .tail ∷ s .high ∷ s .known ∷ s .end ∷ []
 
 unfoldable pub scalarsOf : List ℕ → Scalars
 scalarsOf w = record {
   taken = getD w 0 0;
   low = getD w 1 0;
-  high = getD w 2 0;
-  known = getD w 3 0;
-  end = getD w 4 0;
+  tail = getD w 2 0;
+  high = getD w 3 0;
+  known = getD w 4 0;
+  end = getD w 5 0;
 }
 
 -- a lent buffer may be longer than asked

@@ -10,7 +10,7 @@ use sending::Line;
 use sending::Row;
 use wire::CEILING;
 
-pub const TABLE_WORDS: usize = 164;
+pub const TABLE_WORDS: usize = 165;
 
 const INTERVAL_MOST: u64 = 65535;
 
@@ -84,15 +84,16 @@ pub fn sends_in(t: &[u64]) -> Sends
 }
 
 fn load_scalars(w: &[u64]) -> Scalars
-    requires { ⌜ length (now w) ≡ 5 ⌝ }
+    requires { ⌜ length (now w) ≡ 6 ⌝ }
     ensures { λ r. ⌜ r ≡ scalarsOf (now (w .entry)) ⌝ }
 {
     Scalars {
         taken: w[0],
         low: w[1],
-        high: w[2],
-        known: w[3],
-        end: w[4],
+        tail: w[2],
+        high: w[3],
+        known: w[4],
+        end: w[5],
     }
 }
 
@@ -100,7 +101,7 @@ pub fn scalars_in(t: &[u64]) -> Scalars
     requires { ⌜ tableWords ≤ length (now t) ⌝ }
     ensures { λ r. ⌜ r ≡ scalarsOf (sectionsOf (now (t .entry)) .receives) ⌝ }
 {
-    load_scalars(&t[15..20])
+    load_scalars(&t[15..21])
 }
 
 pub fn save_common(w: &mut [u64], c: Common)
@@ -133,14 +134,15 @@ pub fn save_sends(w: &mut [u64], s: Sends)
 }
 
 pub fn save_scalars(w: &mut [u64], s: Scalars)
-    requires { ⌜ length (now w) ≡ 5 ⌝ }
+    requires { ⌜ length (now w) ≡ 6 ⌝ }
     ensures { λ _. ⌜ now (w .exit) ≡ scalarsWords s ⌝ }
 {
     w[0] = s.taken;
     w[1] = s.low;
-    w[2] = s.high;
-    w[3] = s.known;
-    w[4] = s.end;
+    w[2] = s.tail;
+    w[3] = s.high;
+    w[4] = s.known;
+    w[5] = s.end;
 }
 
 // Copies all of src into dst.

@@ -128,12 +128,12 @@ fn send_segments(t: &mut [u64], outgoing: &[u8], out: &mut [u8], w: Tick, e: Sta
     let line = s.line;
     let row = s.row;
     let mut times = [0u64; 64];
-    copy_words(&mut times, &t[100..164]);
+    copy_words(&mut times, &t[101..165]);
     let k = ring::size();
     let r = sending::send(
         out,
         &outgoing[0..k],
-        &mut t[36..100],
+        &mut t[37..101],
         &mut times,
         w,
         e,
@@ -141,7 +141,7 @@ fn send_segments(t: &mut [u64], outgoing: &[u8], out: &mut [u8], w: Tick, e: Sta
         row,
         s.probed,
     );
-    copy_words(&mut t[100..164], &times);
+    copy_words(&mut t[101..165], &times);
     let moved = sending::Row {
         acked: row.acked,
         next: r.next,
