@@ -1,6 +1,8 @@
-// Words and numbers of a line. A word is known by its letters, as digits to the base 256.
+// The script of `vectors`: words and numbers of a line. A word is known by its letters, as digits to the base 256.
 ghost use Prim.Native.Nat.{_≤_, _<_};
 ghost use lib.ListN.{length};
+
+pub mod datagram;
 
 // For an end.
 pub const NEAR: u64 = 0x6e656172;

@@ -1,9 +1,9 @@
--- `vectors::script::decimal` meets its contract. Assumes nothing.
+-- `script::decimal` meets its contract. Assumes nothing.
 use borrow.Author.Needs.{needs}
 use Prim.Native.Nat.{_-_, _<_}
 use lib.ListN.{length}
-use Rattle.vectors.proofs.script.decimal.Statement.{statement}
-use Rattle.vectors.proofs.script.decimal.Tie as tie
+use Rattle.script.proofs.decimal.Statement.{statement}
+use Rattle.script.proofs.decimal.Tie as tie
 
 abbrev Inv-loop : tie.InvT-loop
 Inv-loop line at i₀ v₀ i v = v < 10000000000000000000

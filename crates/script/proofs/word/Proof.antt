@@ -1,9 +1,9 @@
--- `vectors::script::word` meets its contract. Assumes nothing.
+-- `script::word` meets its contract. Assumes nothing.
 use borrow.Author.Needs.{needs}
 use Prim.Native.Nat.{_-_, _≤_}
 use lib.ListN.{length}
-use Rattle.vectors.proofs.script.word.Statement.{statement}
-use Rattle.vectors.proofs.script.word.Tie as tie
+use Rattle.script.proofs.word.Statement.{statement}
+use Rattle.script.proofs.word.Tie as tie
 
 abbrev Inv-loop : tie.InvT-loop
 Inv-loop line at i₀ v₀ i v = 0 ≤ v

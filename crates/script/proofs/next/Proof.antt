@@ -1,9 +1,9 @@
--- `vectors::script::next` meets its contract. Assumes nothing.
+-- `script::next` meets its contract. Assumes nothing.
 use borrow.Author.Needs.{needs}
 use Prim.Native.Nat.{_-_, _≤_}
 use lib.ListN.{length}
-use Rattle.vectors.proofs.script.next.Statement.{statement}
-use Rattle.vectors.proofs.script.next.Tie as tie
+use Rattle.script.proofs.next.Statement.{statement}
+use Rattle.script.proofs.next.Tie as tie
 
 abbrev Inv-loop : tie.InvT-loop
 Inv-loop text at byte i₀ i = (at ≤ i) × (i ≤ length text)

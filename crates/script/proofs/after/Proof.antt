@@ -1,9 +1,9 @@
--- `vectors::script::after` meets its contract. Assumes nothing.
+-- `script::after` meets its contract. Assumes nothing.
 use borrow.Author.Needs.{needs}
 use Prim.Native.Nat.{_-_, _≤_}
 use lib.ListN.{length}
-use Rattle.vectors.proofs.script.after.Statement.{statement}
-use Rattle.vectors.proofs.script.after.Tie as tie
+use Rattle.script.proofs.after.Statement.{statement}
+use Rattle.script.proofs.after.Tie as tie
 
 abbrev Inv-loop : tie.InvT-loop
 Inv-loop line w at₀ at = at ≤ length line
