@@ -1,10 +1,10 @@
--- `endpoint::stream::take` meets its contract. Assumes nothing.
+-- `stream::take` meets its contract. Assumes nothing.
 use Rattle.table.specs.LayoutLaws.{ring-sized}
 use Rattle.table.specs.ReadyLaws.{ready-ranged}
-use Rattle.endpoint.specs.StreamLaws.{took}
+use Rattle.stream.specs.StreamLaws.{took}
 use borrow.Author.Needs.{needs}
-use Rattle.endpoint.proofs.stream.take.Statement.{statement}
-use Rattle.endpoint.proofs.stream.take.Tie as tie
+use Rattle.stream.proofs.take.Statement.{statement}
+use Rattle.stream.proofs.take.Tie as tie
 
 scalars-in-requires : tie.Need-scalars-in-requires
 scalars-in-requires c κs = search needs

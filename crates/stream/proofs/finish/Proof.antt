@@ -1,8 +1,8 @@
--- `endpoint::stream::finish` meets its contract. Assumes nothing.
-use Rattle.endpoint.specs.StreamLaws.{finished}
+-- `stream::finish` meets its contract. Assumes nothing.
+use Rattle.stream.specs.StreamLaws.{finished}
 use borrow.Author.Needs.{needs}
-use Rattle.endpoint.proofs.stream.finish.Statement.{statement}
-use Rattle.endpoint.proofs.stream.finish.Tie as tie
+use Rattle.stream.proofs.finish.Statement.{statement}
+use Rattle.stream.proofs.finish.Tie as tie
 
 sends-in-requires : tie.Need-sends-in-requires
 sends-in-requires c κs = search needs

@@ -18,7 +18,7 @@ use Rattle.table.specs.declared.Sends.{Sends}
 use Rattle.table.specs.Layout.{tableWords, Sections, sectionsOf, sendsWords, sendsOf, scalarsWords, scalarsOf}
 use Rattle.table.specs.LayoutLaws.{sends-size, scalars-size, put-sends, put-receives, ring-put, ring-size}
 use Rattle.table.specs.ReadyLaws.{Ready}
-use Rattle.endpoint.specs.Streams.{withLine, closed, longer, Finished, Gave, Took}
+use Rattle.stream.specs.Streams.{withLine, closed, longer, Finished, Gave, Took}
 
 -- a line that was loaded can be longer by what give takes
 pub room-count : {l : Line} {acked : ℕ} {ring bs : List ℕ} {n : ℕ} {ring' : List ℕ} → sending.Gave l acked ring bs n ring' → n ≤ capacity

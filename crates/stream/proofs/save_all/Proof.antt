@@ -1,8 +1,8 @@
--- `endpoint::opening::save_all` meets its contract. Assumes nothing.
-use Rattle.endpoint.specs.OpeningLaws.{saved}
+-- `stream::save_all` meets its contract. Assumes nothing.
+use Rattle.stream.specs.OpeningLaws.{saved}
 use borrow.Author.Needs.{needs}
-use Rattle.endpoint.proofs.opening.save_all.Statement.{statement}
-use Rattle.endpoint.proofs.opening.save_all.Tie as tie
+use Rattle.stream.proofs.save_all.Statement.{statement}
+use Rattle.stream.proofs.save_all.Tie as tie
 
 sub-save-common : tie.Need-sub-save-common
 sub-save-common c = search needs

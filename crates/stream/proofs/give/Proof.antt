@@ -1,10 +1,10 @@
--- `endpoint::stream::give` meets its contract. Assumes nothing.
+-- `stream::give` meets its contract. Assumes nothing.
 use native.Mathlib.Omega.{arith}
 use Rattle.table.specs.LayoutLaws.{ring-sized}
-use Rattle.endpoint.specs.StreamLaws.{given-fits, gave}
+use Rattle.stream.specs.StreamLaws.{given-fits, gave}
 use borrow.Author.Needs.{needs}
-use Rattle.endpoint.proofs.stream.give.Statement.{statement}
-use Rattle.endpoint.proofs.stream.give.Tie as tie
+use Rattle.stream.proofs.give.Statement.{statement}
+use Rattle.stream.proofs.give.Tie as tie
 
 sends-in-requires : tie.Need-sends-in-requires
 sends-in-requires c κs = search needs

@@ -1,9 +1,9 @@
--- `endpoint::opening::open_end` meets its contract. Assumes nothing.
+-- `stream::open_end` meets its contract. Assumes nothing.
 use Rattle.table.specs.LayoutLaws.{ring-sized}
-use Rattle.endpoint.specs.OpeningLaws.{opened}
+use Rattle.stream.specs.OpeningLaws.{opened}
 use borrow.Author.Needs.{needs}
-use Rattle.endpoint.proofs.opening.open_end.Statement.{statement}
-use Rattle.endpoint.proofs.opening.open_end.Tie as tie
+use Rattle.stream.proofs.open_end.Statement.{statement}
+use Rattle.stream.proofs.open_end.Tie as tie
 
 size-requires : tie.Need-size-requires
 size-requires c κs = search needs
