@@ -22,7 +22,7 @@ use Rattle.table.specs.Layout.{Sections, sectionsOf, sendsWords, sendsOf, scala
 use Rattle.table.specs.LayoutLaws.{withSends, withReceives, sends-words, scalars-words}
 use Rattle.endpoint.specs.Answer.{answerOf}
 use Rattle.endpoint.specs.Calls.{Became, GaveEnd, TookEnd}
-use Rattle.endpoint.specs.Streams.{withLine, closed, longer, Finished, Gave, Took}
+use Rattle.stream.specs.Streams.{withLine, closed, longer, Finished, Gave, Took}
 
 -- the sending side that the sections hold, and the receiving one
 abbrev sideOf : Sections → List ℕ → Sending

@@ -1,11 +1,8 @@
 pub mod Answer
 pub mod AnswerLaws
-pub mod Streams
-pub mod StreamLaws
 pub mod Calls
 pub mod BecameLaws
 pub mod OutcomeLaws
-pub mod Opening
 pub mod OpeningLaws
 pub mod HeardLaws
 pub mod TickedLaws

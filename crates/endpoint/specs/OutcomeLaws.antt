@@ -16,7 +16,7 @@ use Rattle.table.specs.Layout.{sectionsOf, scalarsOf}
 use Rattle.table.specs.Rows.{intervalRow, shortRow, openedRow, readyOf}
 use Rattle.endpoint.specs.Answer.{answerOf}
 use Rattle.endpoint.specs.Calls.{Gives, Finishes, Takes}
-use Rattle.endpoint.specs.Streams.{Finished, Gave, Took}
+use Rattle.stream.specs.Streams.{Finished, Gave, Took}
 use Rattle.endpoint.specs.BecameLaws.{finish-became, give-became, take-became}
 
 -- REFUSAL NUMBERS ARE SMALL

@@ -1,7 +1,6 @@
 // An end on lent buffers: the six calls of 01 section 1, for C and Rust.
 mod answer;
 mod opening;
-mod stream;
 
 ghost use Rattle.endpoint.specs.Calls.{Opens, Gives, Finishes, Hears, Takes, Ticks};
 use answer::refusal;
@@ -32,7 +31,7 @@ pub extern "C" fn sluice_open(
     if no != 0 {
         return refusal(no);
     }
-    opening::open_end(table, marks, epoch, interval);
+    stream::open_end(table, marks, epoch, interval);
     value(0)
 }
 

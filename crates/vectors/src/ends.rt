@@ -2,7 +2,6 @@
 ghost use Prim.Native.Nat.{_≤_};
 ghost use lib.ListN.{length};
 use super::datagram;
-use super::script;
 use super::show;
 
 // open epoch E R I, with a table of `words W`.
@@ -155,7 +154,6 @@ fn wanted(w: u64) -> u64 {
 
 // Any line for an end. sent is how many bytes of out the last tick has sent, and so is the answer.
 pub fn line(
-    w: u64,
     line: &[u8],
     table: &mut [u64],
     outgoing: &mut [u8],
@@ -164,6 +162,7 @@ pub fn line(
     out: &mut [u8],
     sent: usize,
 ) -> usize {
+    let w = script::word(line, 0);
     let what = wanted(w);
     if what == 1 {
         return sends(w, line, table, outgoing, out, sent);

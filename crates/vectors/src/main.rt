@@ -3,7 +3,6 @@ mod alone;
 mod datagram;
 mod ends;
 mod play;
-mod script;
 mod show;
 
 fn main() {

@@ -7,10 +7,10 @@ use Rattle.vectors.proofs.play.play.Statement.{statement}
 use Rattle.vectors.proofs.play.play.Tie as tie
 
 abbrev Inv-loop : tie.InvT-loop
-Inv-loop text tables₀ outgoing₀ incoming₀ marks₀ out₀ sent₀ at₀ tables outgoing incoming marks out sent at = (length tables ≡ length tables₀) × ((length outgoing ≡ length outgoing₀) × ((length incoming ≡ length incoming₀) × ((length marks ≡ length marks₀) × ((length out ≡ length out₀) × ((length incoming₀ ≡ length outgoing₀) × ((length marks₀ ≡ length outgoing₀) × (at ≤ length text)))))))
+Inv-loop text near-table₀ near-outgoing₀ near-incoming₀ near-marks₀ far-table₀ far-outgoing₀ far-incoming₀ far-marks₀ out₀ sent₀ at₀ near-table near-outgoing near-incoming near-marks far-table far-outgoing far-incoming far-marks out sent at = (length out ≡ length out₀) × (at ≤ length text)
 
 abbrev μ-loop : tie.MeasureT-loop
-μ-loop text tables₀ outgoing₀ incoming₀ marks₀ out₀ sent₀ at₀ tables outgoing incoming marks out sent at = length text - at
+μ-loop text near-table₀ near-outgoing₀ near-incoming₀ near-marks₀ far-table₀ far-outgoing₀ far-incoming₀ far-marks₀ out₀ sent₀ at₀ near-table near-outgoing near-incoming near-marks far-table far-outgoing far-incoming far-marks out sent at = length text - at
 
 pub play-spec : {M : Type 1} → statement M
 play-spec =
@@ -18,5 +18,4 @@ play-spec =
     (tie.spec
     Inv-loop μ-loop (λ c. search needs) (λ c κs. search needs) (λ c. search needs) (λ c. search needs)
     (λ c. search needs) (λ c κs. search needs) (λ c κs. search needs) (λ c. search needs) (λ c. search needs)
-    (λ c. search needs) (λ c. search needs) (λ c. search needs) (λ c. search needs) (λ c. search needs)
-    (λ c. search needs))
+    (λ c. search needs) (λ c. search needs))

@@ -1,0 +1,4 @@
+pub mod Opening
+pub mod OpeningLaws
+pub mod Streams
+pub mod StreamLaws
