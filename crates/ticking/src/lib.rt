@@ -116,7 +116,7 @@ fn write_ack(out: &mut [u8], t: &[u64], epoch: u64, number: u64)
         position: position,
         credit: credit,
     };
-    wire::write(out, h);
+    writing::write(out, h);
 }
 
 // Steps 2 to 4, into all of out. The times of the segments are worked on in an array of their own.

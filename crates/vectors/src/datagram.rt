@@ -7,7 +7,7 @@ use super::show;
 pub fn form(line: &[u8]) {
     let mut d = [script::letter(line); 2048];
     let n = script::datagram::made(line, &mut d);
-    show::verdict(wire::form(&d[0..n]));
+    show::verdict(form::form(&d[0..n]));
 }
 
 // An end hears it.

@@ -1,9 +1,9 @@
--- `wire::put` meets its contract. Assumes nothing.
+-- `writing::put` meets its contract. Assumes nothing.
 use Prim.Native.Nat.{_-_, _≤_}
 use borrow.Author.Needs.{needs}
-use Rattle.wire.proofs.Bytes.{Putting, putting-none, putting-more, putting-all}
-use Rattle.wire.proofs.put.Statement.{statement}
-use Rattle.wire.proofs.put.Tie as tie
+use Rattle.writing.proofs.Bytes.{Putting, putting-none, putting-more, putting-all}
+use Rattle.writing.proofs.put.Statement.{statement}
+use Rattle.writing.proofs.put.Tie as tie
 
 abbrev Inv-loop : tie.InvT-loop
 Inv-loop s₀ n v i₀ s i = (i ≤ n) × Putting s₀ n v i s

@@ -1,11 +1,11 @@
--- `wire::write` meets its contract. Assumes nothing.
+-- `writing::write` meets its contract. Assumes nothing.
 use native.Mathlib.Omega.{arith}
 use Rattle.laws.specs.OverLaws.{parts-2}
 use Rattle.wire.specs.Datagram.{headOf, startOf, restOf}
 use Rattle.wire.specs.DatagramLaws.{start-length, rest-length}
 use borrow.Author.Needs.{needs}
-use Rattle.wire.proofs.write.Statement.{statement}
-use Rattle.wire.proofs.write.Tie as tie
+use Rattle.writing.proofs.write.Statement.{statement}
+use Rattle.writing.proofs.write.Tie as tie
 
 sub-write-start : tie.Need-sub-write-start
 sub-write-start c = search needs

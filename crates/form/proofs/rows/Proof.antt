@@ -1,9 +1,9 @@
--- `wire::rows` meets its contract. Assumes nothing.
+-- `form::rows` meets its contract. Assumes nothing.
 use borrow.Author.Needs.{needs}
 use Rattle.wire.specs.Reading.{rowsOf}
 use Rattle.laws.specs.RowsLaws.{rows}
-use Rattle.wire.proofs.rows.Statement.{statement}
-use Rattle.wire.proofs.rows.Tie as tie
+use Rattle.form.proofs.rows.Statement.{statement}
+use Rattle.form.proofs.rows.Tie as tie
 
 add-whole : tie.Need-add-whole
 add-whole c = search needs

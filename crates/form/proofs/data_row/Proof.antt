@@ -1,9 +1,9 @@
--- `wire::data_row` meets its contract. Assumes nothing.
+-- `form::data_row` meets its contract. Assumes nothing.
 use borrow.Author.Needs.{needs}
 use Rattle.wire.specs.Reading.{dataRow}
 use Rattle.laws.specs.RowsLaws.{rows}
-use Rattle.wire.proofs.data_row.Statement.{statement}
-use Rattle.wire.proofs.data_row.Tie as tie
+use Rattle.form.proofs.data_row.Statement.{statement}
+use Rattle.form.proofs.data_row.Tie as tie
 
 returns : tie.Need-returns
 unfolding dataRow

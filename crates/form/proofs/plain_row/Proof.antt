@@ -1,9 +1,9 @@
--- `wire::plain_row` meets its contract. Assumes nothing.
+-- `form::plain_row` meets its contract. Assumes nothing.
 use borrow.Author.Needs.{needs}
 use Rattle.wire.specs.Reading.{plainRow}
 use Rattle.laws.specs.RowsLaws.{rows}
-use Rattle.wire.proofs.plain_row.Statement.{statement}
-use Rattle.wire.proofs.plain_row.Tie as tie
+use Rattle.form.proofs.plain_row.Statement.{statement}
+use Rattle.form.proofs.plain_row.Tie as tie
 
 returns : tie.Need-returns
 unfolding plainRow

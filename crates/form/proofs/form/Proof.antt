@@ -1,10 +1,10 @@
--- `wire::form` meets its contract. Assumes nothing.
+-- `form::form` meets its contract. Assumes nothing.
 use borrow.Author.Needs.{needs}
 use Rattle.wire.specs.Reading.{formOf}
 use Rattle.laws.specs.RowsLaws.{rows}
 use Rattle.wire.specs.ReadingLaws.{form-rows}
-use Rattle.wire.proofs.form.Statement.{statement}
-use Rattle.wire.proofs.form.Tie as tie
+use Rattle.form.proofs.form.Statement.{statement}
+use Rattle.form.proofs.form.Tie as tie
 
 returns : tie.Need-returns
 unfolding formOf
