@@ -130,7 +130,7 @@ fn send_segments(t: &mut [u64], outgoing: &[u8], out: &mut [u8], w: Tick, e: Sta
     let mut times = [0u64; 64];
     copy_words(&mut times, &t[100..164]);
     let k = ring::size();
-    let r = sending::send(
+    let r = steps::send(
         out,
         &outgoing[0..k],
         &mut t[36..100],

@@ -1,10 +1,10 @@
--- `segments::resend` meets its contract. Assumes nothing.
+-- `steps::resend` meets its contract. Assumes nothing.
 use Rattle.segments.specs.StepLaws.{due-allowed}
-use Rattle.segments.proofs.Resending.{Resending, resending-none, resending-skip, resending-send, resending-full, resending-all}
+use Rattle.steps.proofs.Resending.{Resending, resending-none, resending-skip, resending-send, resending-full, resending-all}
 use Prim.Native.Nat.{_-_, _≤_}
 use borrow.Author.Needs.{needs}
-use Rattle.segments.proofs.resend.Statement.{statement}
-use Rattle.segments.proofs.resend.Tie as tie
+use Rattle.steps.proofs.resend.Statement.{statement}
+use Rattle.steps.proofs.resend.Tie as tie
 
 abbrev Inv-loop : tie.InvT-loop
 Inv-loop out₀ ring ends times₀ w e l p i₀ from₀ o₀ n₀ out times i from o n = (i ≤ p .kept) × Resending w e l p ring ends times₀ out₀ i from o n times out

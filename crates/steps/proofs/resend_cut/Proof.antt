@@ -1,12 +1,12 @@
--- `segments::resend_cut` meets its contract. Assumes nothing.
+-- `steps::resend_cut` meets its contract. Assumes nothing.
 use native.Mathlib.Omega.{arith}
-use Rattle.segments.proofs.Both.{both}
+use Rattle.steps.proofs.Both.{both}
 use Rattle.ring.specs.Ring.{span}
 use lib.ListN.{length}
 use Prim.Native.Nat.{_-_}
 use borrow.Author.Needs.{needs}
-use Rattle.segments.proofs.resend_cut.Statement.{statement}
-use Rattle.segments.proofs.resend_cut.Tie as tie
+use Rattle.steps.proofs.resend_cut.Statement.{statement}
+use Rattle.steps.proofs.resend_cut.Tie as tie
 
 resend-requires : tie.Need-resend-requires
 resend-requires c κs = search needs

@@ -2,3 +2,4 @@
 pub mod Resending
 pub mod Cutting
 pub mod Both
+pub mod Probing

@@ -1,9 +1,9 @@
--- `segments::cut` meets its contract. Assumes nothing.
-use Rattle.segments.proofs.Cutting.{Cutting, cutting-none, cutting-more, cutting-full, cutting-nothing, cutting-all}
+-- `steps::cut` meets its contract. Assumes nothing.
+use Rattle.steps.proofs.Cutting.{Cutting, cutting-none, cutting-more, cutting-full, cutting-nothing, cutting-all}
 use Prim.Native.Nat.{_-_}
 use borrow.Author.Needs.{needs}
-use Rattle.segments.proofs.cut.Statement.{statement}
-use Rattle.segments.proofs.cut.Tie as tie
+use Rattle.steps.proofs.cut.Statement.{statement}
+use Rattle.steps.proofs.cut.Tie as tie
 
 abbrev Inv-loop : tie.InvT-loop
 Inv-loop out₀ ring ends₀ times₀ w e l p a₀ k₀ o₀ n₀ out ends times a k o n = Cutting w e l p ring ends₀ times₀ out₀ a k o n ends times out

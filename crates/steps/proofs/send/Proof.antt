@@ -1,12 +1,12 @@
--- `sending::send` meets its contract. Assumes nothing.
+-- `steps::send` meets its contract. Assumes nothing.
 use native.Mathlib.Omega.{arith}
 use Rattle.ring.specs.Ring.{span}
 use Rattle.segments.specs.Segments.{segs}
 use Rattle.sending.specs.Steps.{cutsOf, stepsOf}
-use Rattle.sending.proofs.Steps.{probe-none, probe-one, probes-allow}
+use Rattle.steps.proofs.Probing.{probe-none, probe-one, probes-allow}
 use borrow.Author.Needs.{needs}
-use Rattle.sending.proofs.send.Statement.{statement}
-use Rattle.sending.proofs.send.Tie as tie
+use Rattle.steps.proofs.send.Statement.{statement}
+use Rattle.steps.proofs.send.Tie as tie
 
 resend-cut-requires : tie.Need-resend-cut-requires
 resend-cut-requires c κs = search needs
