@@ -1,6 +1,7 @@
-// Bytes, numbers and answers on standard output, each answer after a space.
-ghost use Prim.Native.Nat.{_≤_};
+// What `vectors` writes on standard output: bytes, numbers and datagrams, each answer after a space.
 use libc::STDOUT_FILENO;
+
+pub mod datagram;
 
 pub fn text(s: &[u8]) {
     io::write_all(STDOUT_FILENO, s);
@@ -101,40 +102,4 @@ pub fn verdict(r: u64) {
     } else {
         spaced(r);
     }
-}
-
-// The refusal that an answer stands for, or 14.
-fn refusal(r: i64) -> u64 {
-    let mut n: u64 = 0;
-    while n < 14 {
-        if r == 0 - n as i64 {
-            return n;
-        }
-        n += 1;
-    }
-    n
-}
-
-// The number of bytes that an answer from 0 on stands for, at most 65,536.
-fn count(r: i64) -> usize
-    ensures { λ n. ⌜ n ≤ 65536 ⌝ }
-{
-    let mut n: usize = 0;
-    while n < 65536 {
-        if r == n as i64 {
-            return n;
-        }
-        n += 1;
-    }
-    n
-}
-
-// What a call answered.
-pub fn answer(r: i64) {
-    if r < 0 {
-        text(b" refused with ");
-        number(refusal(r));
-        return;
-    }
-    spaced(count(r) as u64);
 }

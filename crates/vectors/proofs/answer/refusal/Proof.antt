@@ -1,9 +1,9 @@
--- `vectors::show::refusal` meets its contract. Assumes nothing.
+-- `vectors::answer::refusal` meets its contract. Assumes nothing.
 use borrow.Author.Needs.{needs}
 use Rattle.endpoint.specs.AnswerLaws.{refusal-fits}
 use Prim.Native.Nat.{_-_, _≤_}
-use Rattle.vectors.proofs.show.refusal.Statement.{statement}
-use Rattle.vectors.proofs.show.refusal.Tie as tie
+use Rattle.vectors.proofs.answer.refusal.Statement.{statement}
+use Rattle.vectors.proofs.answer.refusal.Tie as tie
 
 abbrev Inv-loop : tie.InvT-loop
 Inv-loop r n₀ n = n ≤ 14
