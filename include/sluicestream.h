@@ -49,7 +49,7 @@ extern "C" {
 #endif
 
 /* Words of the table: all that an end knows, save the bytes themselves. */
-#define SLUICE_TABLE_WORDS 164
+#define SLUICE_TABLE_WORDS 165
 /* Bytes of each of the buffers outgoing, incoming and marks. */
 #define SLUICE_RING 65536
 /* Bytes of a datagram's header, and the most that a datagram has. */

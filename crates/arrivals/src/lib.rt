@@ -4,7 +4,7 @@ ghost use Prim.Native.Nat.{_+_, _≤_, _<_, min, max};
 ghost use lib.ListN.{length};
 ghost use Rattle.wire.specs.Datagram.{ceiling};
 ghost use Rattle.ring.specs.Ring.{capacity};
-ghost use Rattle.arrivals.specs.Steps.{Written, Stored, Laid, Placed, Advanced, Unmarked};
+ghost use Rattle.arrivals.specs.Steps.{Written, Stored, Laid, Placed, Advanced};
 
 // The lower of two numbers.
 pub fn least(a: u64, b: u64) -> u64
@@ -99,13 +99,4 @@ pub fn place(ring: &mut [u8], marks: &mut [u8], p: u64, src: &[u8], low: u64, hi
         return;
     }
     lay(ring, marks, p, src, a, edge);
-}
-
-// 0 where no position from a to b - 1 has a mark.
-pub fn marked(marks: &[u8], a: u64, b: u64) -> u8
-    requires { ⌜ length (now marks) ≡ capacity ⌝ }
-    requires { ⌜ (a ≤ b) × (b ≤ a + capacity) ⌝ }
-    ensures { λ r. ⌜ Unmarked (now (marks .entry)) a b r ⌝ }
-{
-    marks::any(marks, a, b)
 }

@@ -1,3 +1,3 @@
 -- What the proofs of several functions share.
-pub mod CopyingLaws
+pub mod FillingLaws
 pub mod SearchLaws

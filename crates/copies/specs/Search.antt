@@ -4,9 +4,9 @@ use mathlib.Core.List.{List}
 use Prim.Native.Nat.{ℕ, _<_, _≤_}
 use lib.ListN.{length, getD}
 
--- the bytes of a block that is copied, and of one that is searched
+-- the most bytes that are copied at once, and the bytes of a block that is searched
 abbrev pub copied : ℕ
-copied = 128
+copied = 65536
 
 abbrev pub searched : ℕ
 searched = 64

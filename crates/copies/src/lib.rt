@@ -1,12 +1,11 @@
-// Memory copied and searched in blocks, and filled.
+// Memory copied, filled, and searched in blocks.
 ghost use mathlib.Core.Path.{_≡_};
 ghost use Prim.Native.Nat.{ℕ, _+_, _≤_, _<_};
-ghost use lib.ListN.{length, drop, getD, replicate};
-ghost use lib.Seq.{paste};
+ghost use lib.ListN.{length, getD, replicate};
 ghost use Rattle.copies.specs.Search.{copied, searched, Other};
 
-// The bytes of a block that is copied, and of one that is searched.
-const COPIED: usize = 128;
+// The most bytes that are copied at once, and the bytes of a block that is searched.
+const COPIED: usize = 65536;
 
 const SEARCHED: usize = 64;
 
@@ -22,34 +21,25 @@ fn bytes(dst: &mut [u8], src: &[u8])
     }
 }
 
-// Copies a block from index at on, through a local: its bytes are all loaded, and then all stored, sixteen at a time.
-fn block(dst: &mut [u8], at: usize, src: &[u8])
+// Copies all of src into dst, through t.
+fn through(dst: &mut [u8], src: &[u8], t: &mut [u8])
     requires { ⌜ length (now dst) ≡ length (now src) ⌝ }
-    requires { ⌜ at + copied ≤ length (now src) ⌝ }
-    ensures { λ _. ⌜ now (dst .exit) ≡ paste (now (dst .entry)) at (drop at (now (src .entry))) copied ⌝ }
-{
-    let e = at + COPIED;
-    let mut t = [0u8; COPIED];
-    bytes(&mut t, &src[at..e]);
-    bytes(&mut dst[at..e], &t);
-}
-
-// Copies all of src into dst, in blocks, of which the last may overlap the one before.
-pub fn copy(dst: &mut [u8], src: &[u8])
-    requires { ⌜ length (now dst) ≡ length (now src) ⌝ }
+    requires { ⌜ length (now src) ≤ length (now t) ⌝ }
     ensures { λ _. ⌜ now (dst .exit) ≡ now (src .entry) ⌝ }
 {
     let n = src.len();
-    if n < COPIED {
-        bytes(dst, src);
-    } else {
-        let mut i = 0;
-        while COPIED <= n - i {
-            block(dst, i, src);
-            i += COPIED;
-        }
-        block(dst, n - COPIED, src);
-    }
+    bytes(&mut t[0..n], src);
+    bytes(dst, &t[0..n]);
+}
+
+// Copies all of src into dst. The compiler drops the local, and makes one call of memmove of the two loops: without it, it could not know that src and dst are apart.
+pub fn copy(dst: &mut [u8], src: &[u8])
+    requires { ⌜ length (now dst) ≡ length (now src) ⌝ }
+    requires { ⌜ length (now src) ≤ copied ⌝ }
+    ensures { λ _. ⌜ now (dst .exit) ≡ now (src .entry) ⌝ }
+{
+    let mut t = [0u8; COPIED];
+    through(dst, src, &mut t);
 }
 
 // Sets every byte of m to v.

@@ -73,6 +73,30 @@ lays-filling {f} {g} {f′} {g′} {bs} {t} {low} {p} {a} s ea la lo up = record
   after = λ q l h x. cell-same f g f′ g′ low q (s .bytes .above q x (omega arith)) (s .marks .above q x (omega arith));
 }
 
+-- the cells of a window tell no more than its marks
+pub cells-same : {g g′ : ℕ → ℕ} (f : ℕ → ℕ) (t low : ℕ) → ((q : ℕ) → t ≤ q → q < t + capacity → g′ q ≡ g q) → cellsOf f g′ t low ≡ cellsOf f g t low
+cells-same {g} {g′} f t low e =
+    let n = length-cells f g t low in
+    let n′ = length-cells f g′ t low in
+    ext-getD missing (cellsOf f g′ t low) (cellsOf f g t low) (n′ ∙ sym n)
+    (λ i h.
+    let k : i < capacity = omega arith in
+    cells-at f g′ t low i k ∙ cell-same f g f g′ low (t + i) refl (e (t + i) (omega arith) (omega arith)) ∙ sym (cells-at f g t low i k))
+
+pub clear-same : {s : Scalars} {g g′ : ℕ → ℕ} → Ranged s → ((q : ℕ) → s .taken ≤ q → q < s .taken + capacity → g′ q ≡ g q) → Clear s g → Clear s g′
+clear-same {s} {g} {g′} r e x =
+    let a = r .taken-low in
+    let b = r .low-tail in
+    let c = r .tail-high in
+    let d = r .high-limit in record {
+      clear = λ q l h u. e q l u ∙ x .clear q l h u;
+      beyond = λ q l u. e q (omega arith) u ∙ x .beyond q l u;
+      top = λ h.
+          let z : 0 < g (s .high - 1) = x .top h in
+          let k : g′ (s .high - 1) ≡ g (s .high - 1) = e (s .high - 1) (omega arith) (omega arith) in
+          omega arith;
+    }
+
 -- passing marks moves low and no cell
 pub moves-cells : {g g′ : ℕ → ℕ} {low top l : ℕ} (f : ℕ → ℕ) (taken : ℕ) → Moves g low top g′ l → taken ≤ low → top ≤ taken + capacity
     → cellsOf f g′ taken l ≡ cellsOf f g taken low
@@ -120,6 +144,20 @@ order-filling {f} {f′} {bs} {t} {low} {p} g w into z lo le hi up = record {
       ⊎-elim (λ y. let n : g q ≡ 0 = omega arith in cell-missing f′ g (p + length bs) q x n ∙ sym (cell-missing f g low q b n))
       (λ y. cell-marked f′ g (p + length bs) q x y ∙ ap byte e ∙ sym (cell-marked f g low q b y))
       (split (g q) 1);
+}
+
+-- beyond all that has arrived
+pub ahead-filling : {f g f′ g′ : ℕ → ℕ} {bs : List ℕ} {t low p : ℕ} → Same f p (p + length bs) f′ → ((q : ℕ) → p ≤ q → q < p + length bs → f′ q ≡ getD bs (q - p) 0)
+    → ((q : ℕ) → t ≤ q → q < t + capacity → (q < p) ⊎ (p + length bs ≤ q) → g′ q ≡ g q) → ((q : ℕ) → p ≤ q → q < p + length bs → g q ≡ 0)
+    → ((q : ℕ) → p ≤ q → q < p + length bs → 0 < g′ q)
+    → low ≤ p → t ≤ low → p + length bs ≤ t + capacity
+    → Fillings f g t low p bs f′ g′ low
+ahead-filling {f} {g} {f′} {g′} {bs} {t} {low} {p} w into out zero one le lo up = record {
+  before = λ q l h x. cell-same f g f′ g′ low q (w .below q x (omega arith)) (out q l h (inl x));
+  inside = λ q l h x y.
+      cell-marked f′ g′ low q (omega arith) (one q x y) ∙ ap byte (into q x y)
+      ∙ sym (first-missing (getD bs (q - p) 0) (cell-missing f g low q (omega arith) (zero q x y)));
+  after = λ q l h x. cell-same f g f′ g′ low q (w .above q x (omega arith)) (out q l h (inr x));
 }
 
 -- nothing new

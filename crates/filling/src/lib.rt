@@ -1,9 +1,9 @@
-// 01 section 5: bytes that arrive are kept in a ring, with marks for what lies beyond the lowest missing position, and handed up.
+// 01 section 5: bytes that arrive are kept in a ring, with marks for what lies beyond the lowest missing position and before the last stretch, and handed up.
 ghost use mathlib.Core.Path.{_≡_};
-ghost use Prim.Native.Nat.{_+_, _≤_};
+ghost use Prim.Native.Nat.{_+_, _≤_, _<_};
 ghost use lib.ListN.{length};
 ghost use Rattle.ring.specs.Ring.{capacity};
-ghost use Rattle.arrivals.specs.Steps.{Unmarked};
+ghost use Rattle.marks.specs.Stretches.{Unmarked};
 ghost use Rattle.receiving.specs.Receiving.{Ranged};
 ghost use Rattle.receiving.specs.Calls.{Lent, Room, New, Starts, Fills, Hears, Takes};
 use receiving::Scalars;
@@ -17,46 +17,79 @@ pub fn start(marks: &mut [u8]) -> Scalars
     Scalars {
         taken: 0,
         low: 0,
+        tail: 0,
         high: 0,
         known: 0,
         end: 0,
     }
 }
 
-// Out of order, or over positions of which some have arrived.
+// Over positions of which some have arrived: the last stretch gets its marks, and is empty after.
 fn slow(ring: &mut [u8], marks: &mut [u8], s: Scalars, p: u64, src: &[u8]) -> Scalars
     requires { ⌜ Lent s (now ring) (now marks) ⌝ }
     requires { ⌜ New s p (length (now src)) ⌝ }
     ensures { λ r. ⌜ Fills (now (ring .entry)) (now (marks .entry)) s p (now (src .entry)) (now (ring .exit)) (now (marks .exit)) r ⌝ }
 {
     let top = arrivals::most(s.high, p + src.len() as u64);
+    marks::put_all(marks, s.tail, s.high, 1);
     arrivals::place(ring, marks, p, src, s.low, s.high);
     let l = arrivals::advance(marks, s.low, top);
     Scalars {
         taken: s.taken,
         low: l,
+        tail: top,
         high: top,
         known: s.known,
         end: s.end,
     }
 }
 
-// In order, and no position has a mark: one copy, and then low passes what has arrived beyond.
+// Beyond a new hole: the last stretch gets its marks, and the bytes are the next one.
+fn leap(ring: &mut [u8], marks: &mut [u8], s: Scalars, p: u64, src: &[u8]) -> Scalars
+    requires { ⌜ Lent s (now ring) (now marks) ⌝ }
+    requires { ⌜ New s p (length (now src)) ⌝ }
+    requires { ⌜ s .high < p ⌝ }
+    ensures { λ r. ⌜ Fills (now (ring .entry)) (now (marks .entry)) s p (now (src .entry)) (now (ring .exit)) (now (marks .exit)) r ⌝ }
+{
+    let e = p + src.len() as u64;
+    arrivals::write(ring, p, src, p);
+    marks::put_all(marks, s.tail, s.high, 1);
+    Scalars {
+        taken: s.taken,
+        low: s.low,
+        tail: p,
+        high: e,
+        known: s.known,
+        end: s.end,
+    }
+}
+
+// In order, and none of the positions has arrived: one copy, and then low passes what has arrived beyond.
 fn follow(ring: &mut [u8], marks: &mut [u8], s: Scalars, p: u64, src: &[u8]) -> Scalars
     requires { ⌜ Lent s (now ring) (now marks) ⌝ }
     requires { ⌜ New s p (length (now src)) ⌝ }
-    requires { ⌜ p ≤ s .low ⌝ }
+    requires { ⌜ (p ≤ s .low) × (p + length (now src) ≤ s .tail) ⌝ }
     requires { ⌜ Unmarked (now marks) (s .low) (p + length (now src)) 0 ⌝ }
     ensures { λ r. ⌜ Fills (now (ring .entry)) (now (marks .entry)) s p (now (src .entry)) (now (ring .exit)) (now (marks .exit)) r ⌝ }
 {
     let e = p + src.len() as u64;
-    let top = arrivals::most(s.high, e);
     arrivals::write(ring, p, src, s.low);
-    let l = arrivals::advance(marks, e, top);
+    let l = arrivals::advance(marks, e, s.tail);
+    if l == s.tail {
+        return Scalars {
+            taken: s.taken,
+            low: s.high,
+            tail: s.high,
+            high: s.high,
+            known: s.known,
+            end: s.end,
+        };
+    }
     Scalars {
         taken: s.taken,
         low: l,
-        high: top,
+        tail: s.tail,
+        high: s.high,
         known: s.known,
         end: s.end,
     }
@@ -75,15 +108,43 @@ fn in_order(ring: &mut [u8], marks: &mut [u8], s: Scalars, p: u64, src: &[u8]) -
         return Scalars {
             taken: s.taken,
             low: e,
+            tail: e,
             high: e,
             known: s.known,
             end: s.end,
         };
     }
-    if arrivals::marked(marks, s.low, e) != 0 {
+    if s.tail < e {
+        return slow(ring, marks, s, p, src);
+    }
+    if marks::any(marks, s.low, e) != 0 {
         return slow(ring, marks, s, p, src);
     }
     follow(ring, marks, s, p, src)
+}
+
+// Beyond the lowest missing position. Right after all that has arrived the last stretch grows, and no mark is touched.
+fn beyond(ring: &mut [u8], marks: &mut [u8], s: Scalars, p: u64, src: &[u8]) -> Scalars
+    requires { ⌜ Lent s (now ring) (now marks) ⌝ }
+    requires { ⌜ New s p (length (now src)) ⌝ }
+    requires { ⌜ s .low < p ⌝ }
+    ensures { λ r. ⌜ Fills (now (ring .entry)) (now (marks .entry)) s p (now (src .entry)) (now (ring .exit)) (now (marks .exit)) r ⌝ }
+{
+    if p == s.high {
+        arrivals::write(ring, p, src, p);
+        return Scalars {
+            taken: s.taken,
+            low: s.low,
+            tail: s.tail,
+            high: p + src.len() as u64,
+            known: s.known,
+            end: s.end,
+        };
+    }
+    if s.high < p {
+        return leap(ring, marks, s, p, src);
+    }
+    slow(ring, marks, s, p, src)
 }
 
 // A DATA's bytes.
@@ -101,7 +162,7 @@ fn fill(ring: &mut [u8], marks: &mut [u8], s: Scalars, p: u64, src: &[u8]) -> Sc
     if p <= s.low {
         return in_order(ring, marks, s, p, src);
     }
-    slow(ring, marks, s, p, src)
+    beyond(ring, marks, s, p, src)
 }
 
 // An accepted DATA: its bytes, and where e is 1 the END right after them.
@@ -115,6 +176,7 @@ pub fn hear(ring: &mut [u8], marks: &mut [u8], s: Scalars, p: u64, src: &[u8], e
         return Scalars {
             taken: t.taken,
             low: t.low,
+            tail: t.tail,
             high: t.high,
             known: 1,
             end: p + src.len() as u64,
@@ -135,6 +197,7 @@ pub fn take(ring: &[u8], s: Scalars, out: &mut [u8]) -> Scalars
     Scalars {
         taken: s.taken + n,
         low: s.low,
+        tail: s.tail,
         high: s.high,
         known: s.known,
         end: s.end,

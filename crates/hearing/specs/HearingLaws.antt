@@ -28,7 +28,7 @@ use Rattle.sending.specs.Outcome as sending
 use Rattle.sending.specs.BufferLaws.{raised}
 use Rattle.table.specs.declared.Common.{Common}
 use Rattle.table.specs.declared.Sends.{Sends}
-use Rattle.table.specs.Layout.{tableWords, Sections, sectionsOf, commonWords, commonOf, sendsWords, sendsOf, scalarsWords, scalarsOf}
+use Rattle.table.specs.Layout.{commonSize, sendsAt, sendsSize, receivesAt, receivesSize, windowAt, windowSize, tableWords, Sections, sectionsOf, commonWords, commonOf, sendsWords, sendsOf, scalarsWords, scalarsOf}
 use Rattle.table.specs.LayoutLaws.{common-size, sends-size, scalars-size, put-common, put-sends, put-receives, put-window, window-size, ring-put, ring-size}
 use Rattle.table.specs.ReadyLaws.{ready-ranged}
 use Rattle.table.specs.ReadyLaws.{Ready}
@@ -120,14 +120,14 @@ near-loaded s c n e h = rw e h
 
 pub noted : (t x y : List ℕ) (number due high : ℕ) (c : Common) → tableWords ≤ length t → c ≡ commonOf (sectionsOf t .common)
     → Accepts (c .high) (sectionsOf t .window) number high x → y ≡ commonWords (noting c due high)
-    → Noted t number due (putMid 0 7 (putMid 20 16 t x) y)
+    → Noted t number due (putMid 0 commonSize (putMid windowAt windowSize t x) y)
 noted t x y number due high c lt e a ey =
-    let l : length x ≡ 16 = a .long ∙ window-size t lt in
-    let n : length y ≡ 7 = ap length ey ∙ common-size (noting c due high) in
-    let t₁ = putMid 20 16 t x in
-    let l₁ : length t₁ ≡ length t = length-put t x 20 16 (omega arith) l in
+    let l : length x ≡ windowSize = a .long ∙ window-size t lt in
+    let n : length y ≡ commonSize = ap length ey ∙ common-size (noting c due high) in
+    let t₁ = putMid windowAt windowSize t x in
+    let l₁ : length t₁ ≡ length t = length-put t x windowAt windowSize (omega arith) l in
     record {
-      size = length-put t₁ y 0 7 (omega arith) n ∙ l₁;
+      size = length-put t₁ y 0 commonSize (omega arith) n ∙ l₁;
       high = high;
       words = x;
       accepts = rw (← e) a;
@@ -170,15 +170,15 @@ module _ {n : ℕ} (size : n ≡ capacity) where
 
   pub data-done : {t t₁ y i m d x z : List ℕ} {h : Header} {u v : Scalars} → Hearing t (length i) (length m) d h → u ≡ scalarsOf (sectionsOf t .receives)
       → receiving.Hears (part 0 n i) (part 0 n m) u (h .position) (take (length d - headSize) (drop headSize d)) (h .flags) x z v → Noted t (h .number) 1 t₁ → y ≡ scalarsWords v
-      → DataDone t i m d h (putMid 15 5 t₁ y) (putMid 0 n i x) (putMid 0 n m z)
+      → DataDone t i m d h (putMid receivesAt receivesSize t₁ y) (putMid 0 n i x) (putMid 0 n m z)
   data-done {t} {t₁} {y} {i} {m} {d} {x} {z} {h} {u} {v} k e f c ey =
       let a = rw size at f in
-      let ly : length y ≡ 5 = ap length ey ∙ scalars-size v in
+      let ly : length y ≡ receivesSize = ap length ey ∙ scalars-size v in
       let lt : tableWords ≤ length t₁ = omega (arith, c .size, k .table-size) in
       let lx : length x ≡ capacity = a .ring-same ∙ ring-size i (k .incoming-size) in
       let lz : length z ≡ capacity = a .marks-same ∙ ring-size m (k .marks-size) in
       rw size (record {
-        size = length-put t₁ y 15 5 (omega arith) ly ∙ c .size;
+        size = length-put t₁ y receivesAt receivesSize (omega arith) ly ∙ c .size;
         incoming-size = length-put i x 0 capacity (omega (arith, k .incoming-size)) lx;
         marks-size = length-put m z 0 capacity (omega (arith, k .marks-size)) lz;
         heard = record {
@@ -205,13 +205,13 @@ ack-row {s} {v} r e = rw e (omega (arith, r .sends .oldest, r .sends .kept))
 pub ack-done : {t t₁ y : List ℕ} {h : Header} {c : Common} {u : Sends} {r : Row} {g : Credit} → tableWords ≤ length t → c ≡ commonOf (sectionsOf t .common) → u ≡ sendsOf (sectionsOf t .sends)
     → sending.Acked (sectionsOf t .ends) (u .row) (h .position) r → sending.Granted (u .line .limit) (u .probed) (h .position + h .credit) g
     → Noted t (h .number) (c .due) t₁ → y ≡ sendsWords (record { line = raised (u .line) g; row = r; probed = g .probed })
-    → AckDone t h (putMid 7 8 t₁ y)
+    → AckDone t h (putMid sendsAt sendsSize t₁ y)
 ack-done {t} {t₁} {y} {h} {c} {u} {r} {g} lt ec e a gr n ey =
     let v : Sends = record { line = raised (u .line) g; row = r; probed = g .probed } in
-    let ly : length y ≡ 8 = ap length ey ∙ sends-size v in
+    let ly : length y ≡ sendsSize = ap length ey ∙ sends-size v in
     let l₁ : tableWords ≤ length t₁ = omega (arith, n .size) in
     record {
-      size = length-put t₁ y 7 8 (omega arith) ly ∙ n .size;
+      size = length-put t₁ y sendsAt sendsSize (omega arith) ly ∙ n .size;
       heard = record {
         middle = t₁;
         noted = rw (← ec) n;

@@ -12,7 +12,12 @@ ghost use Rattle.hearing.specs.Hearing.{placeRow, judgeRow, hearRow, Not
 ghost use Rattle.hearing.specs.HearingLaws.{Judged, Hearing, HearReady};
 use sending::Line;
 use table::Common;
+use table::ENDS;
+use table::RECEIVES;
+use table::SENDS;
 use table::Sends;
+use table::TIMES;
+use table::WINDOW;
 use table::common_in;
 use table::save_common;
 use table::save_scalars;
@@ -46,7 +51,7 @@ fn judge(t: &[u64], h: Header) -> u64
     if h.epoch != c.epoch {
         return 3;
     }
-    let v = window::verdict(c.high, &t[20..36], h.number);
+    let v = window::verdict(c.high, &t[WINDOW..ENDS], h.number);
     if v != 0 {
         return v;
     }
@@ -71,7 +76,7 @@ fn note(t: &mut [u64], number: u64, due: u64)
     ensures { λ _. ⌜ Noted (now (t .entry)) number due (now (t .exit)) ⌝ }
 {
     let c = common_in(t);
-    let high = window::accept(c.high, &mut t[20..36], number);
+    let high = window::accept(c.high, &mut t[WINDOW..ENDS], number);
     let n = Common {
         opened: c.opened,
         epoch: c.epoch,
@@ -81,7 +86,7 @@ fn note(t: &mut [u64], number: u64, due: u64)
         due: due,
         high: high,
     };
-    save_common(&mut t[0..7], n);
+    save_common(&mut t[0..SENDS], n);
 }
 
 // An accepted DATA.
@@ -102,7 +107,7 @@ fn data(t: &mut [u64], incoming: &mut [u8], marks: &mut [u8], d: &[u8], h: Heade
     );
     let number = h.number;
     note(t, number, 1);
-    save_scalars(&mut t[15..20], v);
+    save_scalars(&mut t[RECEIVES..WINDOW], v);
 }
 
 // An accepted ACK.
@@ -117,7 +122,7 @@ fn ack(t: &mut [u64], h: Header)
     let s = sends_in(t);
     let row = s.row;
     let line = s.line;
-    let r = sending::ack(&t[36..100], row, h.position);
+    let r = sending::ack(&t[ENDS..TIMES], row, h.position);
     let g = sending::grant(line.limit, s.probed, h.position + h.credit);
     let raised = Line {
         given: line.given,
@@ -130,7 +135,7 @@ fn ack(t: &mut [u64], h: Header)
         probed: g.probed,
     };
     note(t, h.number, c.due);
-    save_sends(&mut t[7..15], v);
+    save_sends(&mut t[SENDS..RECEIVES], v);
 }
 
 // An accepted datagram.

@@ -12,8 +12,8 @@ use borrow.Author.Tests.{lt-ltb, le-ltb, le-leb, leb-true, not-false}
 use Rattle.laws.specs.Choice.{if-case}
 use Rattle.wire.specs.Datagram.{ceiling}
 use Rattle.ring.specs.Ring.{capacity}
-use Rattle.arrivals.specs.Marks.{of, mark}
-use Rattle.receiving.specs.Receiving.{Cell, missing, byte, End, none, at, lead, lowOf, reach, highOf, marked, cellAt, cellsFrom, cellsOf, endOf, endAt, receivingOf, Ranged, Sound, plausibleOf}
+use Rattle.arrivals.specs.Marks.{of}
+use Rattle.receiving.specs.Receiving.{Cell, missing, byte, End, none, at, lead, lowOf, reach, highOf, marked, cellAt, cellsFrom, cellsOf, endOf, endAt, arrived, arrivedOf, receivingOf, Ranged, Sound, plausibleOf}
 use Rattle.receiving.specs.Receiving.{endedOf, ackPosition, ackCredit, refusalOf}
 use Rattle.receiving.specs.Calls.{refusal, endedBy, positionBy, creditBy}
 use Rattle.laws.specs.Split.{split}
@@ -67,6 +67,31 @@ pub cell-same : (f g f′ g′ : ℕ → ℕ) (low q : ℕ) → f′ q ≡ f q �
 unfolding cellAt
 cell-same f g f′ g′ low q x y = rw (x, y)
 
+-- marks and the last stretch
+module _ (tail high : ℕ) (g : ℕ → ℕ) (q : ℕ) where
+  pub arrived-before : q < tail → arrived tail high g q ≡ g q
+  unfolding arrived
+  arrived-before h = rw (lt-ltb q tail h)
+
+  pub arrived-within : tail ≤ q → q < high → arrived tail high g q ≡ 1
+  unfolding arrived
+  arrived-within h k = rw (le-ltb q tail h, lt-ltb q high k)
+
+  pub arrived-beyond : tail ≤ high → high ≤ q → arrived tail high g q ≡ g q
+  unfolding arrived
+  arrived-beyond h k = rw (le-ltb q tail (omega arith), le-ltb q high k)
+
+  -- where nothing has arrived there is no mark
+  pub arrived-none : tail ≤ high → arrived tail high g q ≡ 0 → g q ≡ 0
+  arrived-none h e =
+      ⊎-elim (λ b. sym (arrived-before b) ∙ e)
+      (λ b. ⊎-elim (λ c. let z = arrived-within b c in absurd (omega arith)) (λ c. sym (arrived-beyond h c) ∙ e) (split q high))
+      (split q tail)
+
+-- an empty stretch
+pub arrived-empty : (tail : ℕ) (g : ℕ → ℕ) (q : ℕ) → arrived tail tail g q ≡ g q
+arrived-empty tail g q = ⊎-elim (λ b. arrived-before tail tail g q b) (λ b. arrived-beyond tail tail g q (omega arith) b) (split q tail)
+
 -- low is the lowest missing position
 pub low-is : (s : Scalars) (r m : List ℕ) → Sound s r m → lowOf (receivingOf s r m) ≡ s .low
 unfolding lowOf receivingOf
@@ -74,12 +99,12 @@ low-is s r m x =
     let g = x .ranged in
     let t : ℕ = s .taken in
     let n : ℕ = s .low - s .taken in
-    let len = length-cells (of r) (mark m) t (s .low) in
-    let l : n ≤ length (cellsOf (of r) (mark m) t (s .low)) = omega arith in
-    let e : lead (cellsOf (of r) (mark m) t (s .low)) ≡ n =
-    lead-is n (cellsOf (of r) (mark m) t (s .low)) (λ i. of r (t + i)) l
-    (λ i h. cells-at (of r) (mark m) t (s .low) i (omega arith) ∙ cell-low (of r) (mark m) (s .low) (t + i) (omega arith))
-    (λ h. cells-at (of r) (mark m) t (s .low) n (omega arith) ∙ cell-missing (of r) (mark m) (s .low) (t + n) (omega arith) (x .clear .clear (t + n) (omega arith) (omega arith) (omega arith))) in
+    let len = length-cells (of r) (arrivedOf s m) t (s .low) in
+    let l : n ≤ length (cellsOf (of r) (arrivedOf s m) t (s .low)) = omega arith in
+    let e : lead (cellsOf (of r) (arrivedOf s m) t (s .low)) ≡ n =
+    lead-is n (cellsOf (of r) (arrivedOf s m) t (s .low)) (λ i. of r (t + i)) l
+    (λ i h. cells-at (of r) (arrivedOf s m) t (s .low) i (omega arith) ∙ cell-low (of r) (arrivedOf s m) (s .low) (t + i) (omega arith))
+    (λ h. cells-at (of r) (arrivedOf s m) t (s .low) n (omega arith) ∙ cell-missing (of r) (arrivedOf s m) (s .low) (t + n) (omega arith) (x .clear .clear (t + n) (omega arith) (omega arith) (omega arith))) in
     omega arith
 
 -- high is one more than the highest position that has arrived
@@ -90,18 +115,18 @@ high-is s r m x =
     let t : ℕ = s .taken in
     let low : ℕ = s .low in
     let n : ℕ = s .high - t in
-    let cs : List Cell = cellsOf (of r) (mark m) t low in
-    let len : length cs ≡ capacity = length-cells (of r) (mark m) t low in
+    let cs : List Cell = cellsOf (of r) (arrivedOf s m) t low in
+    let len : length cs ≡ capacity = length-cells (of r) (arrivedOf s m) t low in
     let e : reach cs ≡ n =
     reach-is n cs (of r (t + (n - 1))) (omega arith)
-    (λ i h k. cells-at (of r) (mark m) t low i (omega arith) ∙ cell-missing (of r) (mark m) low (t + i) (omega arith) (x .clear .beyond (t + i) (omega arith) (omega arith)))
-    (λ h. cells-at (of r) (mark m) t low (n - 1) (omega arith)
-    ∙ ⊎-elim (λ b. cell-low (of r) (mark m) low (t + (n - 1)) b)
+    (λ i h k. cells-at (of r) (arrivedOf s m) t low i (omega arith) ∙ cell-missing (of r) (arrivedOf s m) low (t + i) (omega arith) (x .clear .beyond (t + i) (omega arith) (omega arith)))
+    (λ h. cells-at (of r) (arrivedOf s m) t low (n - 1) (omega arith)
+    ∙ ⊎-elim (λ b. cell-low (of r) (arrivedOf s m) low (t + (n - 1)) b)
     (λ b.
     let f : t + (n - 1) ≡ s .high - 1 = omega arith in
-    let z : 0 < mark m (s .high - 1) = x .clear .top (omega arith) in
-    let z′ : 0 < mark m (t + (n - 1)) = rw f z in
-    cell-marked (of r) (mark m) low (t + (n - 1)) b z′)
+    let z : 0 < arrivedOf s m (s .high - 1) = x .clear .top (omega arith) in
+    let z′ : 0 < arrivedOf s m (t + (n - 1)) = rw f z in
+    cell-marked (of r) (arrivedOf s m) low (t + (n - 1)) b z′)
     (split (t + (n - 1)) low)) in
     omega arith
 
@@ -111,20 +136,28 @@ module _ (s : Scalars) where
   unfolding plausibleOf
   plausible-taken h = rw (lt-ltb (s .low) (s .taken) h)
 
-  pub plausible-low : s .taken ≤ s .low → s .high < s .low → false ≡ plausibleOf s
-  unfolding plausibleOf
-  plausible-low h k = rw (le-ltb (s .low) (s .taken) h, lt-ltb (s .high) (s .low) k)
+  module _ (h : s .taken ≤ s .low) where
+    pub plausible-low : s .tail < s .low → false ≡ plausibleOf s
+    unfolding plausibleOf
+    plausible-low k = rw (le-ltb (s .low) (s .taken) h, lt-ltb (s .tail) (s .low) k)
 
-  pub plausible-high : s .taken ≤ s .low → s .low ≤ s .high → ceiling < s .high → false ≡ plausibleOf s
-  unfolding plausibleOf
-  plausible-high h k l = rw (le-ltb (s .low) (s .taken) h, le-ltb (s .high) (s .low) k, lt-ltb ceiling (s .high) l)
+    module _ (k : s .low ≤ s .tail) where
+      pub plausible-tail : s .high < s .tail → false ≡ plausibleOf s
+      unfolding plausibleOf
+      plausible-tail l = rw (le-ltb (s .low) (s .taken) h, le-ltb (s .tail) (s .low) k, lt-ltb (s .high) (s .tail) l)
 
-  pub plausible-limit : s .taken ≤ s .low → s .low ≤ s .high → s .high ≤ ceiling → leb (s .high) (s .taken + capacity) ≡ plausibleOf s
-  unfolding plausibleOf
-  plausible-limit h k l = rw (le-ltb (s .low) (s .taken) h, le-ltb (s .high) (s .low) k, le-ltb ceiling (s .high) l)
+      module _ (l : s .tail ≤ s .high) where
+        pub plausible-high : ceiling < s .high → false ≡ plausibleOf s
+        unfolding plausibleOf
+        plausible-high z = rw (le-ltb (s .low) (s .taken) h, le-ltb (s .tail) (s .low) k, le-ltb (s .high) (s .tail) l, lt-ltb ceiling (s .high) z)
+
+        pub plausible-limit : s .high ≤ ceiling → leb (s .high) (s .taken + capacity) ≡ plausibleOf s
+        unfolding plausibleOf
+        plausible-limit z = rw (le-ltb (s .low) (s .taken) h, le-ltb (s .tail) (s .low) k, le-ltb (s .high) (s .tail) l, le-ltb ceiling (s .high) z)
 
   pub ranged-plausible : Ranged s → plausibleOf s ≡ true
-  ranged-plausible g = sym (plausible-limit (g .taken-low) (g .low-high) (g .high-small)) ∙ le-leb (s .high) (s .taken + capacity) (g .high-limit)
+  ranged-plausible g =
+      sym (plausible-limit (g .taken-low) (g .low-tail) (g .tail-high) (g .high-small)) ∙ le-leb (s .high) (s .taken + capacity) (g .high-limit)
 
   pub plausible-ranged : (r : Bool) → r ≡ plausibleOf s → r ≡ true → Ranged s
   plausible-ranged r e t =
@@ -133,10 +166,19 @@ module _ (s : Scalars) where
       (λ h.
       ⊎-elim (λ k. absurd (f (plausible-low h k)))
       (λ k.
-      ⊎-elim (λ l. absurd (f (plausible-high h k l)))
-      (λ l. record { taken-low = h; low-high = k; high-limit = leb-true (s .high) (s .taken + capacity) (plausible-limit h k l ∙ sym e ∙ t); high-small = l })
+      ⊎-elim (λ l. absurd (f (plausible-tail h k l)))
+      (λ l.
+      ⊎-elim (λ z. absurd (f (plausible-high h k l z)))
+      (λ z. record {
+        taken-low = h;
+        low-tail = k;
+        tail-high = l;
+        high-limit = leb-true (s .high) (s .taken + capacity) (plausible-limit h k l z ∙ sym e ∙ t);
+        high-small = z;
+      })
       (split ceiling (s .high)))
-      (split (s .high) (s .low)))
+      (split (s .high) (s .tail)))
+      (split (s .tail) (s .low)))
       (split (s .low) (s .taken))
 
   -- where the code tests that they are not
@@ -164,7 +206,7 @@ end-at-small (at k) q = if-case (λ (n : ℕ). n ≤ 1) (eqb k q) (λ h. omega a
 -- an ACK's position and credit fit their fields, whatever the buffers hold
 pub position-small : {s : Scalars} → Ranged s → positionBy s ≤ ceiling + 1
 unfolding positionBy
-position-small {s} g = omega (arith, end-at-small (endOf (s .known) (s .end)) (s .low), g .low-high, g .high-small)
+position-small {s} g = omega (arith, end-at-small (endOf (s .known) (s .end)) (s .low), g .low-tail, g .tail-high, g .high-small)
 
 pub credit-small : {s : Scalars} → Ranged s → creditBy s ≤ capacity
 unfolding creditBy positionBy

@@ -128,7 +128,7 @@ refusalBy taken end high p n e = beyondOf taken p n orElse misplacedOf end high 
 unfoldable pub refusalOf : Receiving → ℕ → ℕ → ℕ → ℕ
 refusalOf v p n e = refusalBy (v .taken) (v .end) (highOf v) p n e
 
--- THE LENT BUFFERS: scalars, a ring of bytes, and marks for what lies beyond the lowest missing position
+-- THE LENT BUFFERS: scalars, a ring of bytes, and marks for what lies beyond the lowest missing position, up to tail: from there on all has arrived, up to high
 
 unfoldable pub marked : ℕ → ℕ → Cell
 marked zero b = missing
@@ -137,6 +137,13 @@ marked (suc _) b = byte b
 -- the cell of position q, where the bytes are f and the marks g: all below low have arrived
 unfoldable pub cellAt : (ℕ → ℕ) → (ℕ → ℕ) → ℕ → ℕ → Cell
 cellAt f g low q = if (ltb q low) (byte (f q)) (marked (g q) (f q))
+
+-- the marks g, and the last stretch, from tail up to high
+unfoldable pub arrived : ℕ → ℕ → (ℕ → ℕ) → ℕ → ℕ
+arrived tail high g q = if (ltb q tail) (g q) (if (ltb q high) 1 (g q))
+
+abbrev pub arrivedOf : Scalars → List ℕ → ℕ → ℕ
+arrivedOf s marks = arrived (s .tail) (s .high) (mark marks)
 
 -- n cells from position q on
 unfoldable pub cellsFrom : (ℕ → ℕ) → (ℕ → ℕ) → ℕ → ℕ → ℕ → List Cell
@@ -151,27 +158,30 @@ endOf zero e = none
 endOf (suc _) e = at e
 
 unfoldable pub receivingOf : Scalars → List ℕ → List ℕ → Receiving
-receivingOf s ring marks = record { taken = s .taken; cells = cellsOf (of ring) (mark marks) (s .taken) (s .low); end = endOf (s .known) (s .end) }
+receivingOf s ring marks = record { taken = s .taken; cells = cellsOf (of ring) (arrivedOf s marks) (s .taken) (s .low); end = endOf (s .known) (s .end) }
 
 -- scalars that may be an end's, whatever the buffers hold
 pub record Ranged (s : Scalars) : Type 0 where
   pub taken-low : s .taken ≤ s .low
-  pub low-high : s .low ≤ s .high
+  pub low-tail : s .low ≤ s .tail
+  pub tail-high : s .tail ≤ s .high
   pub high-limit : s .high ≤ s .taken + capacity
   pub high-small : s .high ≤ ceiling
 
 unfoldable pub plausibleOf : Scalars → Bool
-plausibleOf s = if (ltb (s .low) (s .taken)) false (if (ltb (s .high) (s .low)) false (if (ltb ceiling (s .high)) false (leb (s .high) (s .taken + capacity))))
+plausibleOf s =
+    if (ltb (s .low) (s .taken)) false (if (ltb (s .tail) (s .low)) false (if (ltb (s .high) (s .tail)) false (if (ltb ceiling (s .high)) false (leb (s .high) (s .taken + capacity)))))
 
--- no mark up to low, none from high on in the window, one right below high
+-- what has arrived beyond low: nothing up to low, nothing from high on in the window, and the position right below high
 pub record Clear (s : Scalars) (g : ℕ → ℕ) : Type 0 where
   pub clear : (q : ℕ) → s .taken ≤ q → q ≤ s .low → q < s .taken + capacity → g q ≡ 0
   pub beyond : (q : ℕ) → s .high ≤ q → q < s .taken + capacity → g q ≡ 0
   pub top : s .low < s .high → 0 < g (s .high - 1)
 
--- buffers and scalars that may be read
+-- buffers and scalars that may be read: the last stretch has no mark
 pub record Sound (s : Scalars) (ring marks : List ℕ) : Type 0 where
   pub ranged : Ranged s
   pub ring-size : length ring ≡ capacity
   pub marks-size : length marks ≡ capacity
-  pub clear : Clear s (mark marks)
+  pub clear : Clear s (arrivedOf s marks)
+  pub bare : (q : ℕ) → s .tail ≤ q → q < s .high → mark marks q ≡ 0

@@ -7,10 +7,11 @@ ghost use Rattle.receiving.specs.Calls.{refusal, endedBy, positionBy, cr
 use ring::CAPACITY;
 use wire::CEILING;
 
-// Bytes below taken are with the host. low is the lowest missing position, high one more than the highest that has arrived, or taken. end is the END's position where known is not 0.
+// Bytes below taken are with the host. low is the lowest missing position, high one more than the highest that has arrived, or taken; all from tail up to high have arrived. end is the END's position where known is not 0.
 pub struct Scalars {
     pub taken: u64,
     pub low: u64,
+    pub tail: u64,
     pub high: u64,
     pub known: u64,
     pub end: u64,
@@ -23,7 +24,10 @@ pub fn plausible(s: Scalars) -> bool
     if s.low < s.taken {
         return false;
     }
-    if s.high < s.low {
+    if s.tail < s.low {
+        return false;
+    }
+    if s.high < s.tail {
         return false;
     }
     if CEILING < s.high {

@@ -18,23 +18,23 @@ use Rattle.sending.specs.BufferLaws.{fresh-end}
 use Rattle.table.specs.declared.Common.{Common}
 use Rattle.table.specs.declared.Sends.{Sends}
 use Rattle.end.specs.End.{openOf}
-use Rattle.table.specs.Layout.{tableWords, sectionsOf, commonWords, sendsWords, scalarsWords, ringOf, endIn, endOf, Sound}
+use Rattle.table.specs.Layout.{commonSize, sendsAt, sendsSize, receivesAt, receivesSize, tableWords, sectionsOf, commonWords, sendsWords, scalarsWords, ringOf, endIn, endOf, Sound}
 use Rattle.table.specs.LayoutLaws.{common-words, sends-words, scalars-words, common-size, sends-size, scalars-size, put-common, put-sends, put-receives, ring-put, ring-size}
 use Rattle.table.specs.Rows.{intervalMost}
 use Rattle.stream.specs.Opening.{freshCommon, freshSends, Saved, Opened}
 
 -- THE TABLE, as the code leaves it
 pub saved : (t y₁ y₂ y₃ : List ℕ) (c : Common) (s : Sends) (v : Scalars) → tableWords ≤ length t → y₁ ≡ commonWords c → y₂ ≡ sendsWords s → y₃ ≡ scalarsWords v
-    → Saved t c s v (putMid 15 5 (putMid 7 8 (putMid 0 7 t y₁) y₂) y₃)
+    → Saved t c s v (putMid receivesAt receivesSize (putMid sendsAt sendsSize (putMid 0 commonSize t y₁) y₂) y₃)
 saved t y₁ y₂ y₃ c s v lt e₁ e₂ e₃ =
-    let n₁ : length y₁ ≡ 7 = ap length e₁ ∙ common-size c in
-    let n₂ : length y₂ ≡ 8 = ap length e₂ ∙ sends-size s in
-    let n₃ : length y₃ ≡ 5 = ap length e₃ ∙ scalars-size v in
-    let t₁ = putMid 0 7 t y₁ in
-    let t₂ = putMid 7 8 t₁ y₂ in
-    let l₁ : length t₁ ≡ length t = length-put t y₁ 0 7 (omega arith) n₁ in
-    let l₂ : length t₂ ≡ length t₁ = length-put t₁ y₂ 7 8 (omega arith) n₂ in
-    let l₃ : length (putMid 15 5 t₂ y₃) ≡ length t₂ = length-put t₂ y₃ 15 5 (omega arith) n₃ in
+    let n₁ : length y₁ ≡ commonSize = ap length e₁ ∙ common-size c in
+    let n₂ : length y₂ ≡ sendsSize = ap length e₂ ∙ sends-size s in
+    let n₃ : length y₃ ≡ receivesSize = ap length e₃ ∙ scalars-size v in
+    let t₁ = putMid 0 commonSize t y₁ in
+    let t₂ = putMid sendsAt sendsSize t₁ y₂ in
+    let l₁ : length t₁ ≡ length t = length-put t y₁ 0 commonSize (omega arith) n₁ in
+    let l₂ : length t₂ ≡ length t₁ = length-put t₁ y₂ sendsAt sendsSize (omega arith) n₂ in
+    let l₃ : length (putMid receivesAt receivesSize t₂ y₃) ≡ length t₂ = length-put t₂ y₃ receivesAt receivesSize (omega arith) n₃ in
     record {
       size = l₃ ∙ l₂ ∙ l₁;
       sections = put-receives t₂ y₃ (omega arith) n₃ ∙ rw (put-sends t₁ y₂ (omega arith) n₂, put-common t y₁ lt n₁, e₁, e₂, e₃);

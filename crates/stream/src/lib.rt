@@ -10,7 +10,10 @@ ghost use Rattle.stream.specs.Streams.{Finished, Gave, Took};
 use receiving::Scalars;
 use sending::Line;
 use table::Common;
+use table::RECEIVES;
+use table::SENDS;
 use table::Sends;
+use table::WINDOW;
 use table::save_common;
 use table::save_scalars;
 use table::save_sends;
@@ -22,9 +25,9 @@ fn save_all(t: &mut [u64], c: Common, s: Sends, v: Scalars)
     requires { ⌜ tableWords ≤ length (now t) ⌝ }
     ensures { λ _. ⌜ Saved (now (t .entry)) c s v (now (t .exit)) ⌝ }
 {
-    save_common(&mut t[0..7], c);
-    save_sends(&mut t[7..15], s);
-    save_scalars(&mut t[15..20], v);
+    save_common(&mut t[0..SENDS], c);
+    save_sends(&mut t[SENDS..RECEIVES], s);
+    save_scalars(&mut t[RECEIVES..WINDOW], v);
 }
 
 pub fn open_end(t: &mut [u64], marks: &mut [u8], epoch: u64, interval: u64)
@@ -64,7 +67,7 @@ pub fn finish(t: &mut [u64])
         row: row,
         probed: s.probed,
     };
-    save_sends(&mut t[7..15], v);
+    save_sends(&mut t[SENDS..RECEIVES], v);
 }
 
 pub fn give(t: &mut [u64], outgoing: &mut [u8], bytes: &[u8]) -> u64
@@ -87,7 +90,7 @@ pub fn give(t: &mut [u64], outgoing: &mut [u8], bytes: &[u8]) -> u64
         row: row,
         probed: s.probed,
     };
-    save_sends(&mut t[7..15], v);
+    save_sends(&mut t[SENDS..RECEIVES], v);
     n
 }
 
@@ -99,6 +102,6 @@ pub fn take(t: &mut [u64], incoming: &[u8], out: &mut [u8]) -> Scalars
     let s = scalars_in(t);
     let k = ring::size();
     let after = filling::take(&incoming[0..k], s, out);
-    save_scalars(&mut t[15..20], after);
+    save_scalars(&mut t[RECEIVES..WINDOW], after);
     after
 }

@@ -16,8 +16,40 @@ use Rattle.table.specs.declared.Common.{Common}
 use Rattle.table.specs.declared.Sends.{Sends}
 use Rattle.end.specs.End.{End}
 
+-- the words of each section
+abbrev pub commonSize : ℕ
+commonSize = 7
+
+abbrev pub sendsSize : ℕ
+sendsSize = 8
+
+abbrev pub receivesSize : ℕ
+receivesSize = 6
+
+abbrev pub windowSize : ℕ
+windowSize = 16
+
+abbrev pub rowSize : ℕ
+rowSize = 64
+
+-- where each begins, after the common one; and the words in all
+abbrev pub sendsAt : ℕ
+sendsAt = 7
+
+abbrev pub receivesAt : ℕ
+receivesAt = 15
+
+abbrev pub windowAt : ℕ
+windowAt = 21
+
+abbrev pub endsAt : ℕ
+endsAt = 37
+
+abbrev pub timesAt : ℕ
+timesAt = 101
+
 abbrev pub tableWords : ℕ
-tableWords = 164
+tableWords = 165
 
 pub record Sections : Type 0 where
   pub common : List ℕ
@@ -29,12 +61,12 @@ pub record Sections : Type 0 where
 
 unfoldable pub sectionsOf : List ℕ → Sections
 sectionsOf t = record {
-  common = part 0 7 t;
-  sends = part 7 8 t;
-  receives = part 15 5 t;
-  window = part 20 16 t;
-  ends = part 36 64 t;
-  times = part 100 64 t;
+  common = part 0 commonSize t;
+  sends = part sendsAt sendsSize t;
+  receives = part receivesAt receivesSize t;
+  window = part windowAt windowSize t;
+  ends = part endsAt rowSize t;
+  times = part timesAt rowSize t;
 }
 
 -- the words of a section, and what they are read as
@@ -64,15 +96,16 @@ sendsOf w = record {
 }
 
 unfoldable pub scalarsWords : Scalars → List ℕ
-scalarsWords s = s .taken ∷ s .low ∷ s .high ∷ s .known ∷ s .end ∷ []
+scalarsWords s = s .taken ∷ s .low ∷ s .tail ∷ s .high ∷ s .known ∷ s .end ∷ []
 
 unfoldable pub scalarsOf : List ℕ → Scalars
 scalarsOf w = record {
   taken = getD w 0 0;
   low = getD w 1 0;
-  high = getD w 2 0;
-  known = getD w 3 0;
-  end = getD w 4 0;
+  tail = getD w 2 0;
+  high = getD w 3 0;
+  known = getD w 4 0;
+  end = getD w 5 0;
 }
 
 -- a lent buffer may be longer than asked

@@ -10,7 +10,7 @@ use Rattle.ring.specs.Ring.{capacity}
 use Rattle.receiving.specs.declared.Scalars.{Scalars}
 use Rattle.table.specs.declared.Common.{Common}
 use Rattle.table.specs.declared.Sends.{Sends}
-use Rattle.table.specs.Layout.{tableWords, Sections, sectionsOf, commonWords, commonOf, sendsWords, sendsOf, scalarsWords, scalarsOf, ringOf}
+use Rattle.table.specs.Layout.{commonSize, sendsAt, sendsSize, receivesAt, receivesSize, windowAt, windowSize, endsAt, timesAt, rowSize, tableWords, Sections, sectionsOf, commonWords, commonOf, sendsWords, sendsOf, scalarsWords, scalarsOf, ringOf}
 
 -- READ BACK
 pub common-words : (c : Common) → commonOf (commonWords c) ≡ c
@@ -25,15 +25,15 @@ pub scalars-words : (s : Scalars) → scalarsOf (scalarsWords s) ≡ s
 unfolding scalarsOf scalarsWords
 scalars-words s = refl
 
-pub common-size : (c : Common) → length (commonWords c) ≡ 7
+pub common-size : (c : Common) → length (commonWords c) ≡ commonSize
 unfolding commonWords
 common-size c = refl
 
-pub sends-size : (s : Sends) → length (sendsWords s) ≡ 8
+pub sends-size : (s : Sends) → length (sendsWords s) ≡ sendsSize
 unfolding sendsWords
 sends-size s = refl
 
-pub scalars-size : (s : Scalars) → length (scalarsWords s) ≡ 5
+pub scalars-size : (s : Scalars) → length (scalarsWords s) ≡ receivesSize
 unfolding scalarsWords
 scalars-size s = refl
 
@@ -62,65 +62,65 @@ same-sections : {c s r w e t : List ℕ} (v : Sections) → c ≡ v .common → 
 same-sections v e₁ e₂ e₃ e₄ e₅ e₆ = rw (e₁, e₂, e₃, e₄, e₅, e₆)
 
 module _ (t y : List ℕ) (long : tableWords ≤ length t) where
-  pub put-common : length y ≡ 7 → sectionsOf (putMid 0 7 t y) ≡ withCommon (sectionsOf t) y
+  pub put-common : length y ≡ commonSize → sectionsOf (putMid 0 commonSize t y) ≡ withCommon (sectionsOf t) y
   unfolding sectionsOf
   put-common l =
-      let f : 0 + 7 ≤ length t = omega arith in
-      let after = part-after t y 0 7 f l in
-      same-sections (withCommon (sectionsOf t) y) (part-here t y 0 7 f l) (after 7 8 (omega arith)) (after 15 5 (omega arith)) (after 20 16 (omega arith)) (after 36 64 (omega arith)) (after 100 64 (omega arith))
+      let f : 0 + commonSize ≤ length t = omega arith in
+      let after = part-after t y 0 commonSize f l in
+      same-sections (withCommon (sectionsOf t) y) (part-here t y 0 commonSize f l) (after sendsAt sendsSize (omega arith)) (after receivesAt receivesSize (omega arith)) (after windowAt windowSize (omega arith)) (after endsAt rowSize (omega arith)) (after timesAt rowSize (omega arith))
 
-  pub put-sends : length y ≡ 8 → sectionsOf (putMid 7 8 t y) ≡ withSends (sectionsOf t) y
+  pub put-sends : length y ≡ sendsSize → sectionsOf (putMid sendsAt sendsSize t y) ≡ withSends (sectionsOf t) y
   unfolding sectionsOf
   put-sends l =
-      let f : 7 + 8 ≤ length t = omega arith in
-      let after = part-after t y 7 8 f l in
-      let before = part-before t y 7 8 f l in
-      same-sections (withSends (sectionsOf t) y) (before 0 7 (omega arith)) (part-here t y 7 8 f l) (after 15 5 (omega arith)) (after 20 16 (omega arith)) (after 36 64 (omega arith)) (after 100 64 (omega arith))
+      let f : sendsAt + sendsSize ≤ length t = omega arith in
+      let after = part-after t y sendsAt sendsSize f l in
+      let before = part-before t y sendsAt sendsSize f l in
+      same-sections (withSends (sectionsOf t) y) (before 0 commonSize (omega arith)) (part-here t y sendsAt sendsSize f l) (after receivesAt receivesSize (omega arith)) (after windowAt windowSize (omega arith)) (after endsAt rowSize (omega arith)) (after timesAt rowSize (omega arith))
 
-  pub put-receives : length y ≡ 5 → sectionsOf (putMid 15 5 t y) ≡ withReceives (sectionsOf t) y
+  pub put-receives : length y ≡ receivesSize → sectionsOf (putMid receivesAt receivesSize t y) ≡ withReceives (sectionsOf t) y
   unfolding sectionsOf
   put-receives l =
-      let f : 15 + 5 ≤ length t = omega arith in
-      let after = part-after t y 15 5 f l in
-      let before = part-before t y 15 5 f l in
-      same-sections (withReceives (sectionsOf t) y) (before 0 7 (omega arith)) (before 7 8 (omega arith)) (part-here t y 15 5 f l) (after 20 16 (omega arith)) (after 36 64 (omega arith)) (after 100 64 (omega arith))
+      let f : receivesAt + receivesSize ≤ length t = omega arith in
+      let after = part-after t y receivesAt receivesSize f l in
+      let before = part-before t y receivesAt receivesSize f l in
+      same-sections (withReceives (sectionsOf t) y) (before 0 commonSize (omega arith)) (before sendsAt sendsSize (omega arith)) (part-here t y receivesAt receivesSize f l) (after windowAt windowSize (omega arith)) (after endsAt rowSize (omega arith)) (after timesAt rowSize (omega arith))
 
-  pub put-window : length y ≡ 16 → sectionsOf (putMid 20 16 t y) ≡ withWindow (sectionsOf t) y
+  pub put-window : length y ≡ windowSize → sectionsOf (putMid windowAt windowSize t y) ≡ withWindow (sectionsOf t) y
   unfolding sectionsOf
   put-window l =
-      let f : 20 + 16 ≤ length t = omega arith in
-      let after = part-after t y 20 16 f l in
-      let before = part-before t y 20 16 f l in
-      same-sections (withWindow (sectionsOf t) y) (before 0 7 (omega arith)) (before 7 8 (omega arith)) (before 15 5 (omega arith)) (part-here t y 20 16 f l) (after 36 64 (omega arith)) (after 100 64 (omega arith))
+      let f : windowAt + windowSize ≤ length t = omega arith in
+      let after = part-after t y windowAt windowSize f l in
+      let before = part-before t y windowAt windowSize f l in
+      same-sections (withWindow (sectionsOf t) y) (before 0 commonSize (omega arith)) (before sendsAt sendsSize (omega arith)) (before receivesAt receivesSize (omega arith)) (part-here t y windowAt windowSize f l) (after endsAt rowSize (omega arith)) (after timesAt rowSize (omega arith))
 
-  pub put-ends : length y ≡ 64 → sectionsOf (putMid 36 64 t y) ≡ withEnds (sectionsOf t) y
+  pub put-ends : length y ≡ rowSize → sectionsOf (putMid endsAt rowSize t y) ≡ withEnds (sectionsOf t) y
   unfolding sectionsOf
   put-ends l =
-      let f : 36 + 64 ≤ length t = omega arith in
-      let after = part-after t y 36 64 f l in
-      let before = part-before t y 36 64 f l in
-      same-sections (withEnds (sectionsOf t) y) (before 0 7 (omega arith)) (before 7 8 (omega arith)) (before 15 5 (omega arith)) (before 20 16 (omega arith)) (part-here t y 36 64 f l) (after 100 64 (omega arith))
+      let f : endsAt + rowSize ≤ length t = omega arith in
+      let after = part-after t y endsAt rowSize f l in
+      let before = part-before t y endsAt rowSize f l in
+      same-sections (withEnds (sectionsOf t) y) (before 0 commonSize (omega arith)) (before sendsAt sendsSize (omega arith)) (before receivesAt receivesSize (omega arith)) (before windowAt windowSize (omega arith)) (part-here t y endsAt rowSize f l) (after timesAt rowSize (omega arith))
 
-  pub put-times : length y ≡ 64 → sectionsOf (putMid 100 64 t y) ≡ withTimes (sectionsOf t) y
+  pub put-times : length y ≡ rowSize → sectionsOf (putMid timesAt rowSize t y) ≡ withTimes (sectionsOf t) y
   unfolding sectionsOf
   put-times l =
-      let f : 100 + 64 ≤ length t = omega arith in
-      let before = part-before t y 100 64 f l in
-      same-sections (withTimes (sectionsOf t) y) (before 0 7 (omega arith)) (before 7 8 (omega arith)) (before 15 5 (omega arith)) (before 20 16 (omega arith)) (before 36 64 (omega arith)) (part-here t y 100 64 f l)
+      let f : timesAt + rowSize ≤ length t = omega arith in
+      let before = part-before t y timesAt rowSize f l in
+      same-sections (withTimes (sectionsOf t) y) (before 0 commonSize (omega arith)) (before sendsAt sendsSize (omega arith)) (before receivesAt receivesSize (omega arith)) (before windowAt windowSize (omega arith)) (before endsAt rowSize (omega arith)) (part-here t y timesAt rowSize f l)
 
 -- the sizes of the sections
 module _ (t : List ℕ) (long : tableWords ≤ length t) where
-  pub window-size : length (sectionsOf t .window) ≡ 16
+  pub window-size : length (sectionsOf t .window) ≡ windowSize
   unfolding sectionsOf
-  window-size = length-part t 20 16 (omega arith)
+  window-size = length-part t windowAt windowSize (omega arith)
 
-  pub ends-size : length (sectionsOf t .ends) ≡ 64
+  pub ends-size : length (sectionsOf t .ends) ≡ rowSize
   unfolding sectionsOf
-  ends-size = length-part t 36 64 (omega arith)
+  ends-size = length-part t endsAt rowSize (omega arith)
 
-  pub times-size : length (sectionsOf t .times) ≡ 64
+  pub times-size : length (sectionsOf t .times) ≡ rowSize
   unfolding sectionsOf
-  times-size = length-part t 100 64 (omega arith)
+  times-size = length-part t timesAt rowSize (omega arith)
 
 -- a buffer whose first 65,536 bytes came back as y
 pub ring-put : (b y : List ℕ) → capacity ≤ length b → length y ≡ capacity → ringOf (putMid 0 capacity b y) ≡ y

@@ -2,7 +2,7 @@
 ghost use mathlib.Core.Path.{_≡_};
 ghost use Prim.Native.Nat.{ℕ, _+_, _≤_, _<_};
 ghost use lib.ListN.{length};
-ghost use Rattle.table.specs.Layout.{tableWords, sectionsOf, commonOf, commonWords, sendsOf, sendsWords, scalarsOf, scalarsWords};
+ghost use Rattle.table.specs.Layout.{commonSize, sendsSize, receivesSize, tableWords, sectionsOf, commonOf, commonWords, sendsOf, sendsWords, scalarsOf, scalarsWords};
 ghost use Rattle.table.specs.Rows.{intervalRow, shortRow, goingOf, openedOf, readyOf};
 use receiving::Scalars;
 use ring::CAPACITY;
@@ -10,7 +10,18 @@ use sending::Line;
 use sending::Row;
 use wire::CEILING;
 
-pub const TABLE_WORDS: usize = 164;
+// Where each section of the table begins, after the common one; and the words in all.
+pub const SENDS: usize = 7;
+
+pub const RECEIVES: usize = 15;
+
+pub const WINDOW: usize = 21;
+
+pub const ENDS: usize = 37;
+
+pub const TIMES: usize = 101;
+
+pub const TABLE_WORDS: usize = 165;
 
 const INTERVAL_MOST: u64 = 65535;
 
@@ -33,7 +44,7 @@ pub struct Sends {
 }
 
 fn load_common(w: &[u64]) -> Common
-    requires { ⌜ length (now w) ≡ 7 ⌝ }
+    requires { ⌜ length (now w) ≡ commonSize ⌝ }
     ensures { λ r. ⌜ r ≡ commonOf (now (w .entry)) ⌝ }
 {
     Common {
@@ -51,11 +62,11 @@ pub fn common_in(t: &[u64]) -> Common
     requires { ⌜ tableWords ≤ length (now t) ⌝ }
     ensures { λ r. ⌜ r ≡ commonOf (sectionsOf (now (t .entry)) .common) ⌝ }
 {
-    load_common(&t[0..7])
+    load_common(&t[0..SENDS])
 }
 
 fn load_sends(w: &[u64]) -> Sends
-    requires { ⌜ length (now w) ≡ 8 ⌝ }
+    requires { ⌜ length (now w) ≡ sendsSize ⌝ }
     ensures { λ r. ⌜ r ≡ sendsOf (now (w .entry)) ⌝ }
 {
     let line = Line {
@@ -80,19 +91,20 @@ pub fn sends_in(t: &[u64]) -> Sends
     requires { ⌜ tableWords ≤ length (now t) ⌝ }
     ensures { λ r. ⌜ r ≡ sendsOf (sectionsOf (now (t .entry)) .sends) ⌝ }
 {
-    load_sends(&t[7..15])
+    load_sends(&t[SENDS..RECEIVES])
 }
 
 fn load_scalars(w: &[u64]) -> Scalars
-    requires { ⌜ length (now w) ≡ 5 ⌝ }
+    requires { ⌜ length (now w) ≡ receivesSize ⌝ }
     ensures { λ r. ⌜ r ≡ scalarsOf (now (w .entry)) ⌝ }
 {
     Scalars {
         taken: w[0],
         low: w[1],
-        high: w[2],
-        known: w[3],
-        end: w[4],
+        tail: w[2],
+        high: w[3],
+        known: w[4],
+        end: w[5],
     }
 }
 
@@ -100,11 +112,11 @@ pub fn scalars_in(t: &[u64]) -> Scalars
     requires { ⌜ tableWords ≤ length (now t) ⌝ }
     ensures { λ r. ⌜ r ≡ scalarsOf (sectionsOf (now (t .entry)) .receives) ⌝ }
 {
-    load_scalars(&t[15..20])
+    load_scalars(&t[RECEIVES..WINDOW])
 }
 
 pub fn save_common(w: &mut [u64], c: Common)
-    requires { ⌜ length (now w) ≡ 7 ⌝ }
+    requires { ⌜ length (now w) ≡ commonSize ⌝ }
     ensures { λ _. ⌜ now (w .exit) ≡ commonWords c ⌝ }
 {
     w[0] = c.opened;
@@ -117,7 +129,7 @@ pub fn save_common(w: &mut [u64], c: Common)
 }
 
 pub fn save_sends(w: &mut [u64], s: Sends)
-    requires { ⌜ length (now w) ≡ 8 ⌝ }
+    requires { ⌜ length (now w) ≡ sendsSize ⌝ }
     ensures { λ _. ⌜ now (w .exit) ≡ sendsWords s ⌝ }
 {
     let line = s.line;
@@ -133,14 +145,15 @@ pub fn save_sends(w: &mut [u64], s: Sends)
 }
 
 pub fn save_scalars(w: &mut [u64], s: Scalars)
-    requires { ⌜ length (now w) ≡ 5 ⌝ }
+    requires { ⌜ length (now w) ≡ receivesSize ⌝ }
     ensures { λ _. ⌜ now (w .exit) ≡ scalarsWords s ⌝ }
 {
     w[0] = s.taken;
     w[1] = s.low;
-    w[2] = s.high;
-    w[3] = s.known;
-    w[4] = s.end;
+    w[2] = s.tail;
+    w[3] = s.high;
+    w[4] = s.known;
+    w[5] = s.end;
 }
 
 // Copies all of src into dst.

@@ -29,7 +29,7 @@ use Rattle.sending.specs.BufferLaws.{moved}
 use Rattle.table.specs.declared.Common.{Common}
 use Rattle.table.specs.declared.Sends as declared
 use Rattle.ticking.specs.declared.Plan.{Plan}
-use Rattle.table.specs.Layout.{tableWords, Sections, sectionsOf, commonWords, commonOf, sendsWords, sendsOf, scalarsOf, ringOf}
+use Rattle.table.specs.Layout.{commonSize, sendsAt, sendsSize, endsAt, timesAt, rowSize, tableWords, Sections, sectionsOf, commonWords, commonOf, sendsWords, sendsOf, scalarsOf, ringOf}
 use Rattle.table.specs.LayoutLaws.{common-size, sends-size, put-common, put-sends, put-ends, put-times, ends-size, times-size, ring-size}
 use Rattle.table.specs.Rows.{outputLeast, outputRow}
 use Rattle.table.specs.ReadyLaws.{Ready}
@@ -130,20 +130,20 @@ send-room-at size w e t o x y s k es ey = rw (size, ey) (send-room k o x (k .out
 pub segments-sent : {n : ℕ} → n ≡ capacity → (w : Tick) (e : Stamp) (t o out x y z a b out' : List ℕ) (s : declared.Sends) (r : Sent) → SendReady w e t (length o) (length out) → s ≡ sendsOf (sectionsOf t .sends)
     → x ≡ sectionsOf t .times → Sends w e (s .line) (s .row) (s .probed) (part 0 n o) (sectionsOf t .ends) x out r a b out' → y ≡ b
     → z ≡ sendsWords (record { line = s .line; row = moved (s .row) r; probed = r .probed })
-    → SegmentsSent w e t o out r (putMid 7 8 (putMid 100 64 (putMid 36 64 t a) y) z) out'
+    → SegmentsSent w e t o out r (putMid sendsAt sendsSize (putMid timesAt rowSize (putMid endsAt rowSize t a) y) z) out'
 segments-sent size w e t o out x y z a b out' s r k es ex f ey ez =
     let h = rw size at f in
     let v : declared.Sends = record { line = s .line; row = moved (s .row) r; probed = r .probed } in
-    let la : length a ≡ 64 = h .ends-size in
-    let ly : length y ≡ 64 = ap length ey ∙ h .times-size in
-    let lz : length z ≡ 8 = ap length ez ∙ sends-size v in
-    let t₁ = putMid 36 64 t a in
-    let t₂ = putMid 100 64 t₁ y in
+    let la : length a ≡ rowSize = h .ends-size in
+    let ly : length y ≡ rowSize = ap length ey ∙ h .times-size in
+    let lz : length z ≡ sendsSize = ap length ez ∙ sends-size v in
+    let t₁ = putMid endsAt rowSize t a in
+    let t₂ = putMid timesAt rowSize t₁ y in
     let l₀ = k .table-size in
-    let l₁ : length t₁ ≡ length t = length-put t a 36 64 (omega arith) la in
-    let l₂ : length t₂ ≡ length t₁ = length-put t₁ y 100 64 (omega arith) ly in
+    let l₁ : length t₁ ≡ length t = length-put t a endsAt rowSize (omega arith) la in
+    let l₂ : length t₂ ≡ length t₁ = length-put t₁ y timesAt rowSize (omega arith) ly in
     record {
-      size = length-put t₂ z 7 8 (omega arith) lz ∙ l₂ ∙ l₁;
+      size = length-put t₂ z sendsAt sendsSize (omega arith) lz ∙ l₂ ∙ l₁;
       output-size = over-length (record { is = h .wrote }) (omega (arith, h .bytes, h .small, h .few, k .out-size));
       ends = a;
       times = b;
@@ -263,16 +263,16 @@ pub ticked : (t o out : List ℕ) {c : Common} {p : Plan} {from : ℕ} {x : List
     → AckOver (sectionsOf t) c (p .acks) out from x
     → SegmentsSent (record { now = p .now; every = c .interval; allowed = p .allowed - p .acks }) (record { epoch = c .epoch; number = c .number + p .acks }) t o (take (length x - from) (drop from x)) r t₁ y
     → z ≡ commonWords (record { opened = c .opened; epoch = c .epoch; interval = c .interval; clock = p .now; number = c .number + p .acks + r .count; due = c .due - p .acks; high = c .high })
-    → Ticked t o out (from + r .bytes) (putMid 0 7 t₁ z) (putMid from (length x - from) x y)
+    → Ticked t o out (from + r .bytes) (putMid 0 commonSize t₁ z) (putMid from (length x - from) x y)
 ticked t o out {c} {p} {from} {x} {r} {t₁} {y} {z} k e pl a h ez =
     let f = tick-facts k e pl in
     let fm = from-most k e pl refl a in
     let ly : length y ≡ length x - from = h .output-size ∙ length-part x from (length x - from) (omega arith) in
-    let lz : length z ≡ 7 = ap length ez ∙ common-size _ in
+    let lz : length z ≡ commonSize = ap length ez ∙ common-size _ in
     let l₁ : tableWords ≤ length t₁ = omega (arith, h .size, k .table-size) in
     let b = bytes-most from (r .bytes) (p .acks) (r .count) (p .allowed) (a .few) (f .one) (f .allowed) (f .most) (h .sends .few) (h .sends .small) in
     record {
-      size = length-put t₁ z 0 7 (omega arith) lz ∙ h .size;
+      size = length-put t₁ z 0 commonSize (omega arith) lz ∙ h .size;
       output-size = length-put x y from (length x - from) (omega arith) ly ∙ a .size;
       most = omega (arith, k .out-size);
       small = b;

@@ -14,7 +14,12 @@ use sending::Sent;
 use sending::Stamp;
 use sending::Tick;
 use table::Common;
+use table::ENDS;
+use table::RECEIVES;
+use table::SENDS;
 use table::Sends;
+use table::TABLE_WORDS;
+use table::TIMES;
 use table::common_in;
 use table::copy_words;
 use table::save_common;
@@ -128,12 +133,12 @@ fn send_segments(t: &mut [u64], outgoing: &[u8], out: &mut [u8], w: Tick, e: Sta
     let line = s.line;
     let row = s.row;
     let mut times = [0u64; 64];
-    copy_words(&mut times, &t[100..164]);
+    copy_words(&mut times, &t[TIMES..TABLE_WORDS]);
     let k = ring::size();
     let r = steps::send(
         out,
         &outgoing[0..k],
-        &mut t[36..100],
+        &mut t[ENDS..TIMES],
         &mut times,
         w,
         e,
@@ -141,7 +146,7 @@ fn send_segments(t: &mut [u64], outgoing: &[u8], out: &mut [u8], w: Tick, e: Sta
         row,
         s.probed,
     );
-    copy_words(&mut t[100..164], &times);
+    copy_words(&mut t[TIMES..TABLE_WORDS], &times);
     let moved = sending::Row {
         acked: row.acked,
         next: r.next,
@@ -153,7 +158,7 @@ fn send_segments(t: &mut [u64], outgoing: &[u8], out: &mut [u8], w: Tick, e: Sta
         row: moved,
         probed: r.probed,
     };
-    save_sends(&mut t[7..15], v);
+    save_sends(&mut t[SENDS..RECEIVES], v);
     r
 }
 
@@ -197,6 +202,6 @@ pub fn tick_end(t: &mut [u64], outgoing: &[u8], out: &mut [u8]) -> u64
         due: c.due - p.acks,
         high: c.high,
     };
-    save_common(&mut t[0..7], n);
+    save_common(&mut t[0..SENDS], n);
     from as u64 + r.bytes as u64
 }

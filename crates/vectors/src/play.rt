@@ -3,6 +3,7 @@ ghost use Prim.Native.Nat.{_≤_, _<_};
 ghost use lib.ListN.{length};
 use super::alone;
 use super::ends;
+use table::TABLE_WORDS;
 
 // The size of a line without its newline.
 fn bare(line: &[u8]) -> usize
@@ -38,11 +39,11 @@ fn for_end(w: u64, line: &[u8]) -> bool
 // One line; sent is how many bytes of out the last tick has sent, and so is the answer.
 fn any_line(
     line: &[u8],
-    near_table: &mut [u64; 164],
+    near_table: &mut [u64; TABLE_WORDS],
     near_outgoing: &mut [u8; 65536],
     near_incoming: &mut [u8; 65536],
     near_marks: &mut [u8; 65536],
-    far_table: &mut [u64; 164],
+    far_table: &mut [u64; TABLE_WORDS],
     far_outgoing: &mut [u8; 65536],
     far_incoming: &mut [u8; 65536],
     far_marks: &mut [u8; 65536],
@@ -80,11 +81,11 @@ fn any_line(
 
 fn play(
     text: &[u8],
-    near_table: &mut [u64; 164],
+    near_table: &mut [u64; TABLE_WORDS],
     near_outgoing: &mut [u8; 65536],
     near_incoming: &mut [u8; 65536],
     near_marks: &mut [u8; 65536],
-    far_table: &mut [u64; 164],
+    far_table: &mut [u64; TABLE_WORDS],
     far_outgoing: &mut [u8; 65536],
     far_incoming: &mut [u8; 65536],
     far_marks: &mut [u8; 65536],
@@ -113,11 +114,11 @@ fn play(
 }
 
 pub fn from_zeros(text: &[u8]) {
-    let mut near_table = [0u64; 164];
+    let mut near_table = [0u64; TABLE_WORDS];
     let mut near_outgoing = [0u8; 65536];
     let mut near_incoming = [0u8; 65536];
     let mut near_marks = [0u8; 65536];
-    let mut far_table = [0u64; 164];
+    let mut far_table = [0u64; TABLE_WORDS];
     let mut far_outgoing = [0u8; 65536];
     let mut far_incoming = [0u8; 65536];
     let mut far_marks = [0u8; 65536];

@@ -1,4 +1,5 @@
 // A datagram's header, 01 section 2: its fields, and how they are read.
+ghost use mathlib.Core.Path.{_≡_};
 ghost use Prim.Native.Nat.{_+_, _≤_};
 ghost use lib.ListN.{length};
 ghost use Rattle.wire.specs.Datagram.{headSize};
@@ -22,8 +23,8 @@ pub struct Header {
     pub credit: u64,
 }
 
-// The number of n bytes at `at`, the highest first.
-fn get(s: &[u8], at: usize, n: usize) -> u64
+// The number of n bytes at `at`, the highest first, one by one.
+fn value(s: &[u8], at: usize, n: usize) -> u64
     requires { ⌜ (n ≤ 8) × (at + n ≤ length (now s)) ⌝ }
     ensures { λ r. ⌜ Got (now (s .entry)) at n r ⌝ }
 {
@@ -34,6 +35,23 @@ fn get(s: &[u8], at: usize, n: usize) -> u64
         i += 1;
     }
     v
+}
+
+// The same through t, so that they are loaded at once.
+fn get_through(t: &mut [u8], s: &[u8], at: usize, n: usize) -> u64
+    requires { ⌜ (n ≤ 8) × ((length (now t) ≡ 8) × (at + n ≤ length (now s))) ⌝ }
+    ensures { λ r. ⌜ Got (now (s .entry)) at n r ⌝ }
+{
+    copies::copy(&mut t[0..n], &s[at..at + n]);
+    value(t, 0, n)
+}
+
+fn get(s: &[u8], at: usize, n: usize) -> u64
+    requires { ⌜ (n ≤ 8) × (at + n ≤ length (now s)) ⌝ }
+    ensures { λ r. ⌜ Got (now (s .entry)) at n r ⌝ }
+{
+    let mut t = [0u8; 8];
+    get_through(&mut t, s, at, n)
 }
 
 // The fields of a datagram that has a whole header.

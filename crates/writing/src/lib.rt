@@ -5,8 +5,8 @@ ghost use lib.ListN.{length};
 ghost use Rattle.wire.specs.Datagram.{headSize, be, startOf, restOf, headOf};
 use wire::Header;
 
-// The n bytes of v, the highest first, in all of s.
-fn put(s: &mut [u8], n: usize, v: u64)
+// The n bytes of v, the highest first, in all of s, one by one.
+fn digits(s: &mut [u8], n: usize, v: u64)
     requires { ⌜ (n ≤ 8) × (length (now s) ≡ n) ⌝ }
     ensures { λ _. ⌜ now (s .exit) ≡ be n v ⌝ }
 {
@@ -16,6 +16,23 @@ fn put(s: &mut [u8], n: usize, v: u64)
         s[i] = ((v >> k) % 256) as u8;
         i += 1;
     }
+}
+
+// The same through t, so that they are stored at once.
+fn put_through(t: &mut [u8], s: &mut [u8], n: usize, v: u64)
+    requires { ⌜ (n ≤ 8) × ((length (now t) ≡ 8) × (length (now s) ≡ n)) ⌝ }
+    ensures { λ _. ⌜ now (s .exit) ≡ be n v ⌝ }
+{
+    digits(&mut t[0..n], n, v);
+    copies::copy(s, &t[0..n]);
+}
+
+fn put(s: &mut [u8], n: usize, v: u64)
+    requires { ⌜ (n ≤ 8) × (length (now s) ≡ n) ⌝ }
+    ensures { λ _. ⌜ now (s .exit) ≡ be n v ⌝ }
+{
+    let mut t = [0u8; 8];
+    put_through(&mut t, s, n, v);
 }
 
 fn write_start(out: &mut [u8], h: Header)

@@ -1,5 +1,5 @@
 -- `copies::fill` meets its contract. Assumes nothing.
-use Rattle.copies.proofs.CopyingLaws.{fill-more, filled}
+use Rattle.copies.proofs.FillingLaws.{fill-more, filled}
 use mathlib.Core.Path.{_≡_, _∙_}
 use mathlib.Core.List.{_++_}
 use Prim.Native.Nat.{_-_, _≤_}

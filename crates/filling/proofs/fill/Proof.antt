@@ -1,6 +1,6 @@
 -- `filling::fill` meets its contract. Assumes nothing.
-use borrow.Author.Needs.{needs}
 use Rattle.filling.proofs.FillLaws.{none-fills, old-fills}
+use borrow.Author.Needs.{needs}
 use Rattle.filling.proofs.fill.Statement.{statement}
 use Rattle.filling.proofs.fill.Tie as tie
 
@@ -25,8 +25,8 @@ same-length-2 c = search needs
 returns-3 : tie.Need-returns-3
 returns-3 c = search needs
 
-slow-requires : tie.Need-slow-requires
-slow-requires c κs = search needs
+beyond-requires : tie.Need-beyond-requires
+beyond-requires c κs = search needs
 
 same-length-3 : tie.Need-same-length-3
 same-length-3 c = search needs
@@ -48,7 +48,7 @@ fill-spec =
     same-length
     same-length-2
     returns-3
-    slow-requires
+    beyond-requires
     same-length-3
     same-length-4
     returns-4)

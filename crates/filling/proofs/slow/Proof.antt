@@ -10,6 +10,9 @@ add-most c = search needs
 most-requires : tie.Need-most-requires
 most-requires c κs = search needs
 
+put-all-requires : tie.Need-put-all-requires
+put-all-requires c κs = search needs
+
 place-requires : tie.Need-place-requires
 place-requires c κs = search needs
 
@@ -31,6 +34,7 @@ slow-spec =
     (tie.spec
     add-most
     most-requires
+    put-all-requires
     place-requires
     advance-requires
     same-length

@@ -20,6 +20,9 @@ shared-slice-read-t9 c = search needs
 shared-slice-read-t11 : tie.Need-shared-slice-read-t11
 shared-slice-read-t11 c = search needs
 
+shared-slice-read-t13 : tie.Need-shared-slice-read-t13
+shared-slice-read-t13 c = search needs
+
 returns : tie.Need-returns
 unfolding scalarsOf
 returns c = refl
@@ -33,4 +36,5 @@ load-scalars-spec =
     shared-slice-read-t7
     shared-slice-read-t9
     shared-slice-read-t11
+    shared-slice-read-t13
     returns)

@@ -22,6 +22,9 @@ slice-write-w-4 c = simp length-set (omega arith)
 slice-write-w-5 : tie.Need-slice-write-w-5
 slice-write-w-5 c = simp length-set (omega arith)
 
+slice-write-w-6 : tie.Need-slice-write-w-6
+slice-write-w-6 c = simp length-set (omega arith)
+
 same-length : tie.Need-same-length
 same-length c = simp length-set
 
@@ -38,5 +41,6 @@ save-scalars-spec =
     slice-write-w-3
     slice-write-w-4
     slice-write-w-5
+    slice-write-w-6
     same-length
     returns)

@@ -1,11 +1,11 @@
--- `wire::get` meets its contract. Assumes nothing.
+-- `wire::value` meets its contract. Assumes nothing.
 use Prim.Native.Nat.{_+_, _-_, _≤_}
 use native.Mathlib.Omega.{arith}
 use borrow.Author.Needs.{needs}
 use Rattle.wire.specs.Reading.{Got}
 use Rattle.wire.proofs.Numbers.{got-none, got-more, got-room, got-all}
-use Rattle.wire.proofs.get.Statement.{statement}
-use Rattle.wire.proofs.get.Tie as tie
+use Rattle.wire.proofs.value.Statement.{statement}
+use Rattle.wire.proofs.value.Tie as tie
 
 abbrev Inv-loop : tie.InvT-loop
 Inv-loop s at n v₀ i₀ v i = (i ≤ n) × Got s at i v
@@ -49,8 +49,8 @@ loop-again c =
 returns : tie.Need-returns Inv-loop μ-loop
 returns c = search (needs, got-all)
 
-pub get-spec : {M : Type 1} → statement M
-get-spec =
+pub value-spec : {M : Type 1} → statement M
+value-spec =
     tie.close
     (tie.spec
     Inv-loop

@@ -1,9 +1,9 @@
--- `writing::put` meets its contract. Assumes nothing.
+-- `writing::digits` meets its contract. Assumes nothing.
 use Prim.Native.Nat.{_-_, _≤_}
 use borrow.Author.Needs.{needs}
 use Rattle.writing.proofs.Bytes.{Putting, putting-none, putting-more, putting-all}
-use Rattle.writing.proofs.put.Statement.{statement}
-use Rattle.writing.proofs.put.Tie as tie
+use Rattle.writing.proofs.digits.Statement.{statement}
+use Rattle.writing.proofs.digits.Tie as tie
 
 abbrev Inv-loop : tie.InvT-loop
 Inv-loop s₀ n v i₀ s i = (i ≤ n) × Putting s₀ n v i s
@@ -47,8 +47,8 @@ same-length c = search needs
 returns : tie.Need-returns Inv-loop μ-loop
 returns c = search (needs, putting-all)
 
-pub put-spec : {M : Type 1} → statement M
-put-spec =
+pub digits-spec : {M : Type 1} → statement M
+digits-spec =
     tie.close
     (tie.spec
     Inv-loop
