@@ -63,7 +63,7 @@ pub fn hear_row(t: &[u64], d: &[u8]) -> u64
     requires { ⌜ (tableWords ≤ length (now t)) × Ready (sectionsOf (now t)) ⌝ }
     ensures { λ r. ⌜ r ≡ hearRow (sectionsOf (now (t .entry))) (now (d .entry)) ⌝ }
 {
-    let wrong = wire::form(d);
+    let wrong = form::form(d);
     if wrong != 0 {
         return wrong;
     }

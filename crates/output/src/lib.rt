@@ -54,7 +54,7 @@ fn put_data(out: &mut [u8], ring: &[u8], h: wire::Header)
 {
     let n = h.length as usize;
     let e = HEAD + n;
-    wire::write(&mut out[0..HEAD], h);
+    writing::write(&mut out[0..HEAD], h);
     fetch(&mut out[HEAD..e], n, ring, h.position);
 }
 
@@ -102,6 +102,6 @@ pub fn send_probe(out: &mut [u8], o: usize, epoch: u64, number: u64, position: u
         position: position,
         credit: 0,
     };
-    wire::write(&mut out[o..o + HEAD], h);
+    writing::write(&mut out[o..o + HEAD], h);
     HEAD
 }

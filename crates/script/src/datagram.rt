@@ -21,7 +21,7 @@ pub fn made(line: &[u8], d: &mut [u8]) -> usize
     ensures { λ r. ⌜ r ≤ length (now (d .entry)) ⌝ }
 {
     let n = super::size(line, super::BYTES, 0, d.len() - 32);
-    wire::write(&mut d[0..32], header(line, n));
+    writing::write(&mut d[0..32], header(line, n));
     super::size(line, super::CUT, 32 + n, d.len())
 }
 

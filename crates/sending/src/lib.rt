@@ -1,15 +1,14 @@
-// The sending side, 01 section 6, with give and finish of section 1.
+// The sending side but its datagrams, 01 section 6, with give and finish of section 1.
 ghost use mathlib.Core.Path.{_≡_};
 ghost use Prim.Native.Nat.{_+_, _*_, _≤_};
 ghost use lib.ListN.{length};
 ghost use Rattle.ring.specs.Ring.{capacity};
 ghost use Rattle.segments.specs.Segments.{segmentsMost};
-ghost use Rattle.segments.specs.Outcome.{Room};
 ghost use Rattle.sending.specs.Giving.{roomOf};
 ghost use Rattle.sending.specs.Acking.{ackRefusal};
 ghost use Rattle.sending.specs.Steps.{agoOf, probesOf};
 ghost use Rattle.sending.specs.Buffers.{wordOf, Plausible, freshLine, freshRow};
-ghost use Rattle.sending.specs.Outcome.{Sends, Acked, Granted, Gave, Tells};
+ghost use Rattle.sending.specs.Outcome.{Acked, Granted, Gave, Tells};
 use ring::CAPACITY;
 pub use segments::Line;
 pub use segments::Row;
@@ -178,7 +177,7 @@ fn ago(w: Tick, probed: u64) -> bool
 }
 
 // Whether a PROBE is to leave, after `sent` others.
-fn probes(w: Tick, l: Line, probed: u64, next: u64, kept: u64, sent: u64) -> bool
+pub fn probes(w: Tick, l: Line, probed: u64, next: u64, kept: u64, sent: u64) -> bool
     ensures { λ r. ⌜ r ≡ probesOf w l (wordOf probed) next kept sent ⌝ }
 {
     if l.given <= next {
@@ -194,39 +193,4 @@ fn probes(w: Tick, l: Line, probed: u64, next: u64, kept: u64, sent: u64) -> boo
         return false;
     }
     ago(w, probed)
-}
-
-// Steps 2, 3 and 4 of a tick: writes the datagrams one after the other into out.
-pub fn send(
-    out: &mut [u8],
-    ring: &[u8],
-    ends: &mut [u64],
-    times: &mut [u64],
-    w: Tick,
-    e: Stamp,
-    l: Line,
-    p: Row,
-    probed: u64,
-) -> Sent
-    requires { ⌜ Room w e l p (now out) (now ring) (now ends) (now times) ⌝ }
-    ensures { λ r. ⌜ Sends w e l p probed (now (ring .entry)) (now (ends .entry)) (now (times .entry)) (now (out .entry)) r (now (ends .exit)) (now (times .exit)) (now (out .exit)) ⌝ }
-{
-    let c = segments::resend_cut(out, ring, ends, times, w, e, l, p);
-    if probes(w, l, probed, c.next, c.kept, c.count) {
-        let m = output::send_probe(out, c.bytes, e.epoch, e.number + c.count + 1, c.next);
-        return Sent {
-            bytes: c.bytes + m,
-            count: c.count + 1,
-            next: c.next,
-            kept: c.kept,
-            probed: w.now + 1,
-        };
-    }
-    Sent {
-        bytes: c.bytes,
-        count: c.count,
-        next: c.next,
-        kept: c.kept,
-        probed: probed,
-    }
 }

@@ -121,7 +121,7 @@ fn write_ack(out: &mut [u8], t: &[u64], epoch: u64, number: u64)
         position: position,
         credit: credit,
     };
-    wire::write(out, h);
+    writing::write(out, h);
 }
 
 // Steps 2 to 4, into all of out. The times of the segments are worked on in an array of their own.
@@ -135,7 +135,7 @@ fn send_segments(t: &mut [u64], outgoing: &[u8], out: &mut [u8], w: Tick, e: Sta
     let mut times = [0u64; 64];
     copy_words(&mut times, &t[TIMES..TABLE_WORDS]);
     let k = ring::size();
-    let r = sending::send(
+    let r = steps::send(
         out,
         &outgoing[0..k],
         &mut t[ENDS..TIMES],

@@ -1,36 +1,27 @@
 // Lines for one end: the calls of 01 section 1 on its buffers, and what they answer.
-ghost use Prim.Native.Nat.{_≤_};
-ghost use lib.ListN.{length};
+use super::answer::answer;
 use super::datagram;
-use super::show;
 
 // open epoch E R I, with a table of `words W`.
 fn open(line: &[u8], table: &mut [u64], outgoing: &[u8], incoming: &[u8], marks: &mut [u8]) {
     let epoch = script::field(line, script::EPOCH, 7);
     let interval = script::field(line, script::R, 0);
     let n = script::size(line, script::WORDS, table.len(), table.len());
-    show::answer(endpoint::sluice_open(
-        &mut table[0..n],
-        outgoing,
-        incoming,
-        marks,
-        epoch,
-        interval,
-    ));
+    answer(endpoint::sluice_open(&mut table[0..n], outgoing, incoming, marks, epoch, interval));
 }
 
 // give N of a byte.
 fn fill(line: &[u8], table: &mut [u64], outgoing: &mut [u8]) {
     let given = [script::letter(line); 66560];
     let n = script::size(line, script::GIVE, 0, given.len());
-    show::answer(endpoint::sluice_give(table, outgoing, &given[0..n]));
+    answer(endpoint::sluice_give(table, outgoing, &given[0..n]));
 }
 
 // give line: what is left of the line, with its newline.
 fn give(line: &[u8], table: &mut [u64], outgoing: &mut [u8]) {
     let at = script::after(line, script::LINE);
     if at < line.len() {
-        show::answer(endpoint::sluice_give(table, outgoing, &line[at..]));
+        answer(endpoint::sluice_give(table, outgoing, &line[at..]));
         return;
     }
     fill(line, table, outgoing);
@@ -40,9 +31,9 @@ fn give(line: &[u8], table: &mut [u64], outgoing: &mut [u8]) {
 fn tick(line: &[u8], table: &mut [u64], outgoing: &[u8], out: &mut [u8]) -> usize {
     let room = script::size(line, script::ROOM, out.len(), out.len());
     let r = endpoint::sluice_tick(table, outgoing, &mut out[0..room]);
-    show::answer(r);
+    answer(r);
     let n = io::count(r as isize, out);
-    datagram::all(&out[..n], true);
+    show::datagram::all(&out[..n], true);
     n
 }
 
@@ -50,7 +41,7 @@ fn tick(line: &[u8], table: &mut [u64], outgoing: &[u8], out: &mut [u8]) -> usiz
 fn counted(table: &mut [u64], outgoing: &[u8], out: &mut [u8]) -> usize {
     let r = endpoint::sluice_tick(table, outgoing, out);
     let n = io::count(r as isize, out);
-    show::spaced(datagram::all(&out[..n], false));
+    show::spaced(show::datagram::all(&out[..n], false));
     n
 }
 
@@ -71,7 +62,7 @@ fn taken(table: &mut [u64], incoming: &[u8], room: &mut [u8]) {
     let mut ended: u8 = 0;
     let r = endpoint::sluice_take(table, incoming, room, &mut ended);
     if r < 0 {
-        show::answer(r);
+        answer(r);
         return;
     }
     let n = io::count(r as isize, room);
@@ -104,52 +95,12 @@ fn sends(
         give(line, table, outgoing);
         return sent;
     }
-    show::answer(endpoint::sluice_finish(table));
-    sent
-}
-
-// Lines for the receiving side.
-fn receives(
-    w: u64,
-    line: &[u8],
-    table: &mut [u64],
-    incoming: &mut [u8],
-    marks: &mut [u8],
-    out: &[u8],
-    sent: usize,
-) {
-    if w == script::HEARS {
-        datagram::hear_all(out, sent, table, incoming, marks);
-        return;
-    }
-    if w == script::HEAR {
-        datagram::hear(line, table, incoming, marks);
-        return;
-    }
-    take(line, table, incoming);
-}
-
-fn sending(w: u64) -> bool {
-    w == script::FINISH || w == script::GIVE || w == script::TICK || w == script::TICKS
-}
-
-fn receiving(w: u64) -> bool {
-    w == script::HEARS || w == script::HEAR || w == script::TAKE
-}
-
-// What a line wants of an end: 1 to send, 2 to receive, 3 to open; 0 where it is not understood.
-fn wanted(w: u64) -> u64 {
-    if sending(w) {
-        return 1;
-    }
-    if receiving(w) {
-        return 2;
-    }
-    if w == script::OPEN {
-        return 3;
+    if w == script::FINISH {
+        answer(endpoint::sluice_finish(table));
+        return sent;
     }
     show::what();
-    0
+    sent
 }
 
 // Any line for an end. sent is how many bytes of out the last tick has sent, and so is the answer.
@@ -163,16 +114,21 @@ pub fn line(
     sent: usize,
 ) -> usize {
     let w = script::word(line, 0);
-    let what = wanted(w);
-    if what == 1 {
-        return sends(w, line, table, outgoing, out, sent);
-    }
-    if what == 2 {
-        receives(w, line, table, incoming, marks, out, sent);
+    if w == script::HEARS {
+        datagram::hear_all(out, sent, table, incoming, marks);
         return sent;
     }
-    if what == 3 {
-        open(line, table, outgoing, incoming, marks);
+    if w == script::HEAR {
+        datagram::hear(line, table, incoming, marks);
+        return sent;
     }
-    sent
+    if w == script::TAKE {
+        take(line, table, incoming);
+        return sent;
+    }
+    if w == script::OPEN {
+        open(line, table, outgoing, incoming, marks);
+        return sent;
+    }
+    sends(w, line, table, outgoing, out, sent)
 }

@@ -1,4 +1,0 @@
--- What the proofs of several functions share.
-pub mod Resending
-pub mod Cutting
-pub mod Both

@@ -1,0 +1,21 @@
+-- `show::datagram::all` meets its contract. Assumes nothing.
+use borrow.Author.Needs.{needs}
+use mathlib.Core.Path.{_≡_}
+use Prim.Native.Nat.{_-_, _≤_}
+use lib.ListN.{length}
+use Rattle.show.proofs.datagram.all.Statement.{statement}
+use Rattle.show.proofs.datagram.all.Tie as tie
+
+abbrev Inv-loop : tie.InvT-loop
+Inv-loop out shown n at₀ k₀ at k = (n ≡ length out) × ((at ≤ n) × (k ≤ at))
+
+abbrev μ-loop : tie.MeasureT-loop
+μ-loop out shown n at₀ k₀ at k = n - at
+
+pub all-spec : {M : Type 1} → statement M
+all-spec =
+    tie.close
+    (tie.spec
+    Inv-loop μ-loop (λ c. search needs) (λ c. search needs) (λ c κs. search needs) (λ c. search needs)
+    (λ c. search needs) (λ c. search needs) (λ c. search needs) (λ c κs. search needs) (λ c. search needs)
+    (λ c. search needs) (λ c. search needs) (λ c. search needs) (λ c. search needs))
