@@ -14,7 +14,7 @@ use Rattle.arrivals.specs.Marks.{of, mark}
 use Rattle.marks.specs.Stretches.{Marked, Unmarked}
 use Rattle.arrivals.specs.Steps.{Moves, Written, Stored, Placed, Advanced}
 use Rattle.receiving.specs.Calls.{New, Fills, Hears}
-use Rattle.filling.proofs.FillingLaws.{filling-cells, cells-same, clear-same, lays-filling, moves-cells, order-filling, ahead-filling, old-filling, none-filling, after-clear, after-beyond, after-top, follow-clear, follow-beyond, follow-top}
+use Rattle.filling.proofs.FillingLaws.{filling-cells, cells-same, clear-same, lays-filling, moves-cells, order-filling, ahead-filling, again-filling, after-clear, after-beyond, after-top, follow-clear, follow-beyond, follow-top}
 use Rattle.receiving.specs.ReadLaws.{arrived-before, arrived-within, arrived-beyond, arrived-none, arrived-empty}
 use Rattle.laws.specs.Split.{split}
 use Rattle.receiving.specs.declared.Scalars.{Scalars}
@@ -55,23 +55,25 @@ fast-fills {r} {bs} {r′} {s} {p} m g n w hh le =
           ∙ filling-cells (order-filling (arrivedOf s m) (w .beside .same) (w .into) (λ q l h. none x q (omega arith) (omega arith)) lo le (omega arith) up));
     }
 
-pub old-fills : {r m bs : List ℕ} {s : Scalars} {p : ℕ} → Ranged s → p + length bs ≤ s .low → Fills r m s p bs r m s
-old-fills {r} {m} {bs} {s} {p} g h = record {
+-- nothing new
+again-fills : {r m bs : List ℕ} {s : Scalars} {p : ℕ} → Ranged s → ((q : ℕ) → p ≤ q → q < p + length bs → s .low ≤ q → 0 < arrivedOf s m q) → Fills r m s p bs r m s
+again-fills {r} {m} {bs} {s} {p} g here = record {
   ring-same = refl;
   marks-same = refl;
   ranged = g;
   done = λ x. x;
-  read = λ x. filled-read r m bs r m s p (s .low) (s .tail) (s .high) (filling-cells (old-filling (of r) (arrivedOf s m) bs (s .taken) (s .low) p h));
+  read = λ x. filled-read r m bs r m s p (s .low) (s .tail) (s .high) (filling-cells (again-filling (of r) (arrivedOf s m) bs (s .taken) (s .low) p here));
 }
 
-pub none-fills : {r m bs : List ℕ} {s : Scalars} {p : ℕ} → Ranged s → length bs ≡ 0 → Fills r m s p bs r m s
-none-fills {r} {m} {bs} {s} {p} g h = record {
-  ring-same = refl;
-  marks-same = refl;
-  ranged = g;
-  done = λ x. x;
-  read = λ x. filled-read r m bs r m s p (s .low) (s .tail) (s .high) (filling-cells (none-filling (of r) (arrivedOf s m) bs (s .taken) (s .low) p h));
-}
+module _ {r m bs : List ℕ} {s : Scalars} {p : ℕ} (g : Ranged s) where
+  pub none-fills : length bs ≡ 0 → Fills r m s p bs r m s
+  none-fills h = again-fills g (λ q a b c. absurd (omega arith))
+
+  pub old-fills : p + length bs ≤ s .low → Fills r m s p bs r m s
+  old-fills h = again-fills g (λ q a b c. absurd (omega arith))
+
+  pub within-fills : s .tail ≤ p → p + length bs ≤ s .high → Fills r m s p bs r m s
+  within-fills h k = again-fills g (λ q a b c. let z = arrived-within (s .tail) (s .high) (mark m) q (omega arith) (omega arith) in omega arith)
 
 -- once the last stretch has its marks, marks tell what has arrived
 flat : {m m₀ : List ℕ} {s : Scalars} → Ranged s → Marked m (s .tail) (s .high) 1 m₀ → (q : ℕ) → s .taken ≤ q → q < s .taken + capacity → mark m₀ q ≡ arrivedOf s m q

@@ -161,18 +161,14 @@ ahead-filling {f} {g} {f′} {g′} {bs} {t} {low} {p} w into out zero one le lo
 }
 
 -- nothing new
-pub old-filling : (f g : ℕ → ℕ) (bs : List ℕ) (taken low p : ℕ) → p + length bs ≤ low → Fillings f g taken low p bs f g low
-old-filling f g bs t low p h = record {
+pub again-filling : (f g : ℕ → ℕ) (bs : List ℕ) (taken low p : ℕ) → ((q : ℕ) → p ≤ q → q < p + length bs → low ≤ q → 0 < g q) → Fillings f g taken low p bs f g low
+again-filling f g bs t low p here = record {
   before = λ q l h x. refl;
   inside = λ q l k x y.
-      let b : q < low = omega arith in
-      let c = cell-low f g low q b in
+      let c : cellAt f g low q ≡ byte (f q) = ⊎-elim (λ b. cell-low f g low q b) (λ b. cell-marked f g low q b (here q x y b)) (split q low) in
       c ∙ sym (first-byte (f q) (getD bs (q - p) 0) c);
   after = λ q l h x. refl;
 }
-
-pub none-filling : (f g : ℕ → ℕ) (bs : List ℕ) (taken low p : ℕ) → length bs ≡ 0 → Fillings f g taken low p bs f g low
-none-filling f g bs t low p e = record { before = λ q l h x. refl; inside = λ q l k x y. absurd (omega arith); after = λ q l h x. refl }
 
 -- the marks after a store and an advance
 module _ (s : Scalars) (f g f₁ g₁ g′ : ℕ → ℕ) (bs : List ℕ) (p a l top : ℕ) (rg : Ranged s) (x : Clear s g) (st : Lays f g p bs a (p + length bs) f₁ g₁) (ad : Moves g₁ (s .low) top g′ l)

@@ -145,6 +145,11 @@ fn fill(ring: &mut [u8], marks: &mut [u8], s: Scalars, p: u64, src: &[u8]) -> Sc
     if p <= s.low {
         return in_order(ring, marks, s, p, src);
     }
+    if s.tail <= p {
+        if p + src.len() as u64 <= s.high {
+            return s;
+        }
+    }
     beyond(ring, marks, s, p, src)
 }
 

@@ -1,5 +1,5 @@
 -- `filling::fill` meets its contract. Assumes nothing.
-use Rattle.filling.proofs.FillLaws.{none-fills, old-fills}
+use Rattle.filling.proofs.FillLaws.{none-fills, old-fills, within-fills}
 use borrow.Author.Needs.{needs}
 use Rattle.filling.proofs.fill.Statement.{statement}
 use Rattle.filling.proofs.fill.Tie as tie
@@ -25,6 +25,12 @@ same-length-2 c = search needs
 returns-3 : tie.Need-returns-3
 returns-3 c = search needs
 
+add-if5 : tie.Need-add-if5
+add-if5 c = search needs
+
+returns-4 : tie.Need-returns-4
+returns-4 c = search (needs, within-fills)
+
 beyond-requires : tie.Need-beyond-requires
 beyond-requires c κs = search needs
 
@@ -34,8 +40,8 @@ same-length-3 c = search needs
 same-length-4 : tie.Need-same-length-4
 same-length-4 c = search needs
 
-returns-4 : tie.Need-returns-4
-returns-4 c = search needs
+returns-5 : tie.Need-returns-5
+returns-5 c = search needs
 
 pub fill-spec : {M : Type 1} → statement M
 fill-spec =
@@ -48,7 +54,9 @@ fill-spec =
     same-length
     same-length-2
     returns-3
+    add-if5
+    returns-4
     beyond-requires
     same-length-3
     same-length-4
-    returns-4)
+    returns-5)
