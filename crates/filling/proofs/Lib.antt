@@ -1,4 +1,3 @@
 -- What the proofs of several functions share.
 mod FillingLaws
 mod FillLaws
-mod TakeLaws

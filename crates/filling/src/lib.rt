@@ -1,28 +1,11 @@
-// 01 section 5: bytes that arrive are kept in a ring, with marks for what lies beyond the lowest missing position and before the last stretch, and handed up.
+// 01 section 5: bytes that arrive are kept in a ring, with marks for what lies beyond the lowest missing position and before the last stretch.
 ghost use mathlib.Core.Path.{_≡_};
 ghost use Prim.Native.Nat.{_+_, _≤_, _<_};
 ghost use lib.ListN.{length};
 ghost use Rattle.ring.specs.Ring.{capacity};
 ghost use Rattle.marks.specs.Stretches.{Unmarked};
-ghost use Rattle.receiving.specs.Receiving.{Ranged};
-ghost use Rattle.receiving.specs.Calls.{Lent, Room, New, Starts, Fills, Hears, Takes};
+ghost use Rattle.receiving.specs.Calls.{Lent, Room, New, Fills, Hears};
 use receiving::Scalars;
-
-// Nothing has arrived and nothing is taken: clears every mark.
-pub fn start(marks: &mut [u8]) -> Scalars
-    requires { ⌜ length (now marks) ≡ capacity ⌝ }
-    ensures { λ r. ⌜ Starts (now (marks .entry)) (now (marks .exit)) r ⌝ }
-{
-    copies::fill(marks, 0);
-    Scalars {
-        taken: 0,
-        low: 0,
-        tail: 0,
-        high: 0,
-        known: 0,
-        end: 0,
-    }
-}
 
 // Over positions of which some have arrived: the last stretch gets its marks, and is empty after.
 fn slow(ring: &mut [u8], marks: &mut [u8], s: Scalars, p: u64, src: &[u8]) -> Scalars
@@ -183,23 +166,4 @@ pub fn hear(ring: &mut [u8], marks: &mut [u8], s: Scalars, p: u64, src: &[u8], e
         };
     }
     t
-}
-
-// Hands up what is next in the stream, as much as out has room for.
-pub fn take(ring: &[u8], s: Scalars, out: &mut [u8]) -> Scalars
-    requires { ⌜ length (now ring) ≡ capacity ⌝ }
-    requires { ⌜ Ranged s ⌝ }
-    ensures { λ r. ⌜ Takes (now (ring .entry)) s (now (out .entry)) (now (out .exit)) r ⌝ }
-{
-    let n = arrivals::least(out.len() as u64, s.low - s.taken);
-    let k = n as usize;
-    ring::ring_get(&mut out[0..k], ring, s.taken);
-    Scalars {
-        taken: s.taken + n,
-        low: s.low,
-        tail: s.tail,
-        high: s.high,
-        known: s.known,
-        end: s.end,
-    }
 }

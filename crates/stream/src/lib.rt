@@ -35,7 +35,7 @@ pub fn open_end(t: &mut [u64], marks: &mut [u8], epoch: u64, interval: u64)
     ensures { λ _. ⌜ Opened (now (t .entry)) (now (marks .entry)) epoch interval (now (t .exit)) (now (marks .exit)) ⌝ }
 {
     let k = ring::size();
-    let v = filling::start(&mut marks[0..k]);
+    let v = taking::start(&mut marks[0..k]);
     let c = Common {
         opened: 1,
         epoch: epoch,
@@ -101,7 +101,7 @@ pub fn take(t: &mut [u64], incoming: &[u8], out: &mut [u8]) -> Scalars
 {
     let s = scalars_in(t);
     let k = ring::size();
-    let after = filling::take(&incoming[0..k], s, out);
+    let after = taking::take(&incoming[0..k], s, out);
     save_scalars(&mut t[RECEIVES..WINDOW], after);
     after
 }

@@ -1,12 +1,12 @@
--- `filling::take` meets its contract. Assumes nothing.
+-- `taking::take` meets its contract. Assumes nothing.
 use mathlib.Core.Path.{_≡_}
 use Prim.Native.Nat.{_-_}
 use native.Mathlib.Omega.{arith}
 use lib.ListN.{length, take, length-take}
-use Rattle.filling.proofs.TakeLaws.{takes}
+use Rattle.taking.proofs.TakeLaws.{takes}
 use borrow.Author.Needs.{needs}
-use Rattle.filling.proofs.take.Statement.{statement}
-use Rattle.filling.proofs.take.Tie as tie
+use Rattle.taking.proofs.take.Statement.{statement}
+use Rattle.taking.proofs.take.Tie as tie
 
 sub-least : tie.Need-sub-least
 sub-least c = search needs

@@ -1,8 +1,8 @@
--- `filling::start` meets its contract. Assumes nothing.
+-- `taking::start` meets its contract. Assumes nothing.
 use borrow.Author.Needs.{needs}
-use Rattle.filling.proofs.TakeLaws.{starts}
-use Rattle.filling.proofs.start.Statement.{statement}
-use Rattle.filling.proofs.start.Tie as tie
+use Rattle.taking.proofs.TakeLaws.{starts}
+use Rattle.taking.proofs.start.Statement.{statement}
+use Rattle.taking.proofs.start.Tie as tie
 
 fill-requires : tie.Need-fill-requires
 fill-requires c κs = search needs
