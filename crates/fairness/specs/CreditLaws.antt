@@ -23,8 +23,8 @@ use Rattle.end.specs.End.{End, clockOf, ackOf, sentOf}
 use Rattle.end.specs.EndLaws.{Accepts, accepts-data, accepts-ack, accepts-probe}
 use Rattle.network.specs.World.{Site}
 use Rattle.network.specs.Truth.{Pair}
-use Rattle.fairness.specs.Turns.{Comes, Turns}
-use Rattle.fairness.specs.TimerLaws.{Beat, beats, rests, Timer, Held, timer-tries, held-at}
+use Rattle.counting.specs.Turns.{Comes, Turns}
+use Rattle.counting.specs.TimerLaws.{Beat, beats, rests, Timer, Held, timer-tries, held-at}
 use Rattle.fairness.specs.Timed.{Plan, Side, other, intervalOf, endAt}
 use Rattle.fairness.specs.Networks.{isAck, isProbe, sends, Arrives, Going}
 use Rattle.fairness.specs.TimedLaws.{readyAt}

@@ -1,12 +1,4 @@
 -- 03 §2 to §4: fair networks, and the ticks by which things arrive; statement C.
-pub mod Count
-pub mod CountLaws
-pub mod Bounds
-pub mod Table
-pub mod Variants
-pub mod Turns
-pub mod TurnsLaws
-pub mod TimerLaws
 pub mod Timed
 pub mod TimedLaws
 pub mod PlanLaws

@@ -10,7 +10,7 @@ use Rattle.wire.specs.Datagram.{ceiling, Message, DATA, ACK, PROBE}
 use Rattle.receiving.specs.Receiving.{lowOf}
 use Rattle.sending.specs.CallLaws.{In}
 use Rattle.network.specs.World.{Entry, handed}
-use Rattle.fairness.specs.Count.{Fair}
+use Rattle.counting.specs.Count.{Fair}
 use Rattle.fairness.specs.Timed.{Plan, Side, other, arrivalsOf, siteAt, endAt}
 
 -- a DATA of the segment from a to b, its END counted; an ACK; a PROBE

@@ -19,7 +19,7 @@ use Rattle.sending.specs.TickLaws.{Last, last-has, has-in, Covers, covers, olde
 use Rattle.sending.specs.PastLaws.{oldest-past}
 use Rattle.end.specs.End.{End, clockOf, ackOf, sentOf}
 use Rattle.network.specs.World.{Entry, leaving}
-use Rattle.fairness.specs.TimerLaws.{Beat, beats, rests, Timer, Held}
+use Rattle.counting.specs.TimerLaws.{Beat, beats, rests, Timer, Held}
 use Rattle.fairness.specs.Timed.{Plan, Side, intervalOf, endAt}
 use Rattle.fairness.specs.Networks.{isSegment, anyOf, sends, Going}
 use Rattle.fairness.specs.TimedLaws.{readyAt}

@@ -20,8 +20,8 @@ use Rattle.end.specs.End.{End}
 use Rattle.end.specs.EndLaws.{Accepts, accepts-data, accepts-ack, accepts-probe}
 use Rattle.network.specs.World.{Site}
 use Rattle.network.specs.Truth.{Forth, Pair}
-use Rattle.fairness.specs.Turns.{Comes, Turns}
-use Rattle.fairness.specs.TimerLaws.{timer-tries, held-at}
+use Rattle.counting.specs.Turns.{Comes, Turns}
+use Rattle.counting.specs.TimerLaws.{timer-tries, held-at}
 use Rattle.fairness.specs.Timed.{Plan, Side, the-near, the-far, other, intervalOf, endAt}
 use Rattle.fairness.specs.Networks.{isSegment, isAck, sends, Arrives, Going}
 use Rattle.fairness.specs.TimedLaws.{twice, readyAt}

@@ -8,10 +8,10 @@ use Rattle.receiving.specs.Receiving.{ackPosition}
 use Rattle.sending.specs.Sending.{Segment}
 use Rattle.sending.specs.CallLaws.{In}
 use Rattle.sending.specs.TickLaws.{Last, Waits}
-use Rattle.fairness.specs.Bounds.{handTicks, dropTicks}
+use Rattle.counting.specs.Bounds.{handTicks, dropTicks}
 use Rattle.fairness.specs.Timed.{Plan, Side, other, intervalOf, siteAt, endAt}
 use Rattle.fairness.specs.Networks.{FairNetwork, Going, Takers, GivenAtStart}
-use Rattle.fairness.specs.TurnsLaws.{here-by, known-by}
+use Rattle.counting.specs.TurnsLaws.{here-by, known-by}
 use Rattle.fairness.specs.StateLaws.{orderly-at, positionAt, position-up, acked-up}
 use Rattle.fairness.specs.OldestLaws.{Holds}
 use Rattle.fairness.specs.SegmentLaws.{behind, segment-turns}

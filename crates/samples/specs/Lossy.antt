@@ -23,9 +23,9 @@ use Rattle.network.specs.World as world
 use Rattle.network.specs.Rounds.{nearArrivals, farArrivals, nearCalls, farCalls, choicesOf, allChoices, play}
 use Rattle.fairness.specs.Timed.{Plan, roundsOf, at, Side, the-near, the-far, siteAt, endAt}
 use Rattle.fairness.specs.Networks.{isSegment, isAck, isProbe, sentIn, anyOf, sends, first, Arrives, FairNetwork, Going, Takers, GivenAtStart}
-use Rattle.fairness.specs.Count.{count, Fair}
-use Rattle.fairness.specs.CountLaws.{fair-none, fair-one, fair-two}
-use Rattle.fairness.specs.Bounds.{dropTicks}
+use Rattle.counting.specs.Count.{count, Fair}
+use Rattle.counting.specs.CountLaws.{fair-none, fair-one, fair-two}
+use Rattle.counting.specs.Bounds.{dropTicks}
 use Rattle.sending.specs.CallLaws.{here}
 use Rattle.sending.specs.TickLaws.{Last}
 

@@ -1,4 +1,5 @@
 // What `vectors` writes on standard output: bytes, numbers and datagrams, each answer after a space.
+ghost use Prim.Native.Nat.{_≤_};
 use libc::STDOUT_FILENO;
 
 pub mod datagram;
@@ -102,4 +103,48 @@ pub fn verdict(r: u64) {
     } else {
         spaced(r);
     }
+}
+
+// The refusal that an answer stands for, or 14.
+fn refusal(r: i64) -> u64 {
+    match r {
+        -1 => 1,
+        -2 => 2,
+        -3 => 3,
+        -4 => 4,
+        -5 => 5,
+        -6 => 6,
+        -7 => 7,
+        -8 => 8,
+        -9 => 9,
+        -10 => 10,
+        -11 => 11,
+        -12 => 12,
+        -13 => 13,
+        _ => 14,
+    }
+}
+
+// The number of bytes that an answer from 0 on stands for, at most 65,536.
+fn count(r: i64) -> usize
+    ensures { λ n. ⌜ n ≤ 65536 ⌝ }
+{
+    let mut n: usize = 0;
+    while n < 65536 {
+        if r == n as i64 {
+            return n;
+        }
+        n += 1;
+    }
+    n
+}
+
+// What a call answered.
+pub fn answer(r: i64) {
+    if r < 0 {
+        text(b" refused with ");
+        number(refusal(r));
+        return;
+    }
+    spaced(count(r) as u64);
 }

@@ -1,5 +1,4 @@
 // Datagrams: judged and heard.
-use super::answer::answer;
 
 // Its form alone.
 pub fn form(line: &[u8]) {
@@ -12,7 +11,7 @@ pub fn form(line: &[u8]) {
 pub fn hear(line: &[u8], table: &mut [u64], incoming: &mut [u8], marks: &mut [u8]) {
     let mut d = [script::letter(line); 2048];
     let n = script::datagram::made(line, &mut d);
-    answer(endpoint::sluice_datagram(table, incoming, marks, &d[0..n]));
+    show::answer(endpoint::sluice_datagram(table, incoming, marks, &d[0..n]));
 }
 
 // An end hears every datagram of the first bytes of out.
@@ -21,7 +20,7 @@ pub fn hear_all(out: &[u8], sent: usize, table: &mut [u64], incoming: &mut [u8],
     let mut at: usize = 0;
     while 32 <= n - at {
         let m = script::datagram::size_at(out, at);
-        answer(endpoint::sluice_datagram(table, incoming, marks, &out[at..at + m]));
+        show::answer(endpoint::sluice_datagram(table, incoming, marks, &out[at..at + m]));
         if n - at < m {
             return;
         }

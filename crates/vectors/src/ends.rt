@@ -1,5 +1,4 @@
 // Lines for one end: the calls of 01 section 1 on its buffers, and what they answer.
-use super::answer::answer;
 use super::datagram;
 
 // open epoch E R I, with a table of `words W`.
@@ -7,21 +6,28 @@ fn open(line: &[u8], table: &mut [u64], outgoing: &[u8], incoming: &[u8], marks:
     let epoch = script::field(line, script::EPOCH, 7);
     let interval = script::field(line, script::R, 0);
     let n = script::size(line, script::WORDS, table.len(), table.len());
-    answer(endpoint::sluice_open(&mut table[0..n], outgoing, incoming, marks, epoch, interval));
+    show::answer(endpoint::sluice_open(
+        &mut table[0..n],
+        outgoing,
+        incoming,
+        marks,
+        epoch,
+        interval,
+    ));
 }
 
 // give N of a byte.
 fn fill(line: &[u8], table: &mut [u64], outgoing: &mut [u8]) {
     let given = [script::letter(line); 66560];
     let n = script::size(line, script::GIVE, 0, given.len());
-    answer(endpoint::sluice_give(table, outgoing, &given[0..n]));
+    show::answer(endpoint::sluice_give(table, outgoing, &given[0..n]));
 }
 
 // give line: what is left of the line, with its newline.
 fn give(line: &[u8], table: &mut [u64], outgoing: &mut [u8]) {
     let at = script::after(line, script::LINE);
     if at < line.len() {
-        answer(endpoint::sluice_give(table, outgoing, &line[at..]));
+        show::answer(endpoint::sluice_give(table, outgoing, &line[at..]));
         return;
     }
     fill(line, table, outgoing);
@@ -31,7 +37,7 @@ fn give(line: &[u8], table: &mut [u64], outgoing: &mut [u8]) {
 fn tick(line: &[u8], table: &mut [u64], outgoing: &[u8], out: &mut [u8]) -> usize {
     let room = script::size(line, script::ROOM, out.len(), out.len());
     let r = endpoint::sluice_tick(table, outgoing, &mut out[0..room]);
-    answer(r);
+    show::answer(r);
     let n = io::count(r as isize, out);
     show::datagram::all(&out[..n], true);
     n
@@ -62,7 +68,7 @@ fn taken(table: &mut [u64], incoming: &[u8], room: &mut [u8]) {
     let mut ended: u8 = 0;
     let r = endpoint::sluice_take(table, incoming, room, &mut ended);
     if r < 0 {
-        answer(r);
+        show::answer(r);
         return;
     }
     let n = io::count(r as isize, room);
@@ -96,7 +102,7 @@ fn sends(
         return sent;
     }
     if w == script::FINISH {
-        answer(endpoint::sluice_finish(table));
+        show::answer(endpoint::sluice_finish(table));
         return sent;
     }
     show::what();

@@ -1,6 +1,5 @@
 // Every worked example of the documents, computed: a script of at most 16,384 bytes, the file `stdin`, is played to two ends, near and far. `stdout` was written by hand from the documents.
 mod alone;
-mod answer;
 mod datagram;
 mod ends;
 mod play;

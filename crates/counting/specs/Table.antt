@@ -1,6 +1,6 @@
 -- 03 §3: the three rows of the table, computed.
 use mathlib.Core.Path.{_≡_, refl}
-use Rattle.fairness.specs.Bounds.{handTicks, dropTicks}
+use Rattle.counting.specs.Bounds.{handTicks, dropTicks}
 
 row-1-hand : handTicks 1 4 10 ≡ 14
 row-1-hand = refl

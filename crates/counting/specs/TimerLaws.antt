@@ -3,8 +3,8 @@ use mathlib.Core.Path.{_≡_}
 use Prim.Native.Nat.{ℕ, zero, suc, _+_, _-_, _≤_, _<_}
 use native.Mathlib.Nat.{add-zero}
 use native.Mathlib.Omega.{arith}
-use Rattle.fairness.specs.Count.{count}
-use Rattle.fairness.specs.CountLaws.{one, found}
+use Rattle.counting.specs.Count.{count}
+use Rattle.counting.specs.CountLaws.{one, found}
 
 -- `holds a n`: when n ticks are over it waits, last sent when a were. One tick: it is sent, or R ticks have not yet gone
 pub data Beat (sent : ℕ → ℕ) (holds : ℕ → ℕ → Type 0) (R a n : ℕ) : Type 0 where

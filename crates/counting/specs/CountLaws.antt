@@ -4,7 +4,7 @@ use Prim.Native.Nat.{ℕ, zero, suc, _+_, _-_, _*_, _≤_, _<_}
 use native.Mathlib.Nat.{add-zero, add-suc, add-assoc}
 use native.Mathlib.Decide.{decLe, decLt}
 use native.Mathlib.Omega.{arith}
-use Rattle.fairness.specs.Count.{count, Arrival, Fair}
+use Rattle.counting.specs.Count.{count, Arrival, Fair}
 
 -- a stretch in two parts
 pub count-add : (s : ℕ → ℕ) (t m n : ℕ) → count s t (m + n) ≡ count s t m + count s (t + m) n

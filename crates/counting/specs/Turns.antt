@@ -1,6 +1,6 @@
 -- 03 §3, the reason: something is sent in each R ticks until its sender knows that it has come; what comes is answered; an answer that comes makes it known.
 use Prim.Native.Nat.{ℕ, suc, _+_, _≤_, _<_}
-use Rattle.fairness.specs.Count.{count}
+use Rattle.counting.specs.Count.{count}
 
 -- one that is sent in tick k and handed over by tick j has come in some tick between: there it was taken, all below b is there at its end, and an answer leaves
 pub record Comes (answers here : ℕ → ℕ) (b k j : ℕ) : Type 0 where

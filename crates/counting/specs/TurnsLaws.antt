@@ -3,10 +3,10 @@ use mathlib.Core.Path.{_≡_, sym, subst}
 use Prim.Native.Nat.{ℕ, zero, suc, _+_, _*_, _≤_, _<_}
 use native.Mathlib.Decide.{decLe}
 use native.Mathlib.Omega.{arith}
-use Rattle.fairness.specs.Count.{count, Fair}
-use Rattle.fairness.specs.CountLaws.{count-add, one, many, fair-row}
-use Rattle.fairness.specs.Turns.{Turns}
-use Rattle.fairness.specs.Bounds.{handTicks, dropTicks}
+use Rattle.counting.specs.Count.{count, Fair}
+use Rattle.counting.specs.CountLaws.{count-add, one, many, fair-row}
+use Rattle.counting.specs.Turns.{Turns}
+use Rattle.counting.specs.Bounds.{handTicks, dropTicks}
 
 -- one turn: a tick of the m from n on in which it comes, and is answered
 record Turn (answers here : ℕ → ℕ) (b n m : ℕ) : Type 0 where

@@ -1,8 +1,8 @@
--- `vectors::answer::count` meets its contract. Assumes nothing.
+-- `show::count` meets its contract. Assumes nothing.
 use borrow.Author.Needs.{needs}
 use Prim.Native.Nat.{_-_, _≤_}
-use Rattle.vectors.proofs.answer.count.Statement.{statement}
-use Rattle.vectors.proofs.answer.count.Tie as tie
+use Rattle.show.proofs.count.Statement.{statement}
+use Rattle.show.proofs.count.Tie as tie
 
 abbrev Inv-loop : tie.InvT-loop
 Inv-loop r n₀ n = n ≤ 65536

@@ -4,9 +4,9 @@ use Prim.Native.Nat.{ℕ, _+_, _≤_, min}
 use native.Mathlib.Omega.{arith}
 use lib.Dec.{eqb}
 use Rattle.laws.specs.Choice.{if}
-use Rattle.fairness.specs.Count.{count, Fair}
-use Rattle.fairness.specs.CountLaws.{fair-none, fair-one}
-use Rattle.fairness.specs.Bounds.{handTicks, dropTicks}
+use Rattle.counting.specs.Count.{count, Fair}
+use Rattle.counting.specs.CountLaws.{fair-none, fair-one}
+use Rattle.counting.specs.Bounds.{handTicks, dropTicks}
 
 -- what is sent in one tick and handed over in another
 data Comes (from to : ℕ) : ℕ → ℕ → Type 0 where
