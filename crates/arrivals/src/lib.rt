@@ -1,24 +1,10 @@
 // 01 section 5: what has arrived, laid into a ring of bytes and a ring of marks, position by position.
 ghost use mathlib.Core.Path.{_≡_};
-ghost use Prim.Native.Nat.{_+_, _≤_, _<_, min, max};
+ghost use Prim.Native.Nat.{_+_, _≤_, _<_};
 ghost use lib.ListN.{length};
 ghost use Rattle.wire.specs.Datagram.{ceiling};
 ghost use Rattle.ring.specs.Ring.{capacity};
 ghost use Rattle.arrivals.specs.Steps.{Written, Stored, Laid, Placed, Advanced};
-
-// The lower of two numbers.
-pub fn least(a: u64, b: u64) -> u64
-    ensures { λ r. ⌜ r ≡ min a b ⌝ }
-{
-    if a <= b { a } else { b }
-}
-
-// The higher of two numbers.
-pub fn most(a: u64, b: u64) -> u64
-    ensures { λ r. ⌜ r ≡ max a b ⌝ }
-{
-    if a <= b { b } else { a }
-}
 
 // Bytes of src, which starts at position p, from position a on: straight into the ring.
 pub fn write(ring: &mut [u8], p: u64, src: &[u8], a: u64)
@@ -91,9 +77,9 @@ pub fn place(ring: &mut [u8], marks: &mut [u8], p: u64, src: &[u8], low: u64, hi
     requires { ⌜ (length (now src) ≤ capacity) × (p + length (now src) ≤ ceiling) ⌝ }
     ensures { λ _. ⌜ Placed (now (ring .entry)) (now (marks .entry)) p (now (src .entry)) low high (now (ring .exit)) (now (marks .exit)) ⌝ }
 {
-    let a = most(p, low);
-    let h = most(a, high);
-    let edge = least(h, p + src.len() as u64);
+    let a = numbers::most(p, low);
+    let h = numbers::most(a, high);
+    let edge = numbers::least(h, p + src.len() as u64);
     if marks::any(marks, a, edge) == 0 {
         lay(ring, marks, p, src, a, a);
         return;

@@ -13,7 +13,7 @@ fn slow(ring: &mut [u8], marks: &mut [u8], s: Scalars, p: u64, src: &[u8]) -> Sc
     requires { ⌜ New s p (length (now src)) ⌝ }
     ensures { λ r. ⌜ Fills (now (ring .entry)) (now (marks .entry)) s p (now (src .entry)) (now (ring .exit)) (now (marks .exit)) r ⌝ }
 {
-    let top = arrivals::most(s.high, p + src.len() as u64);
+    let top = numbers::most(s.high, p + src.len() as u64);
     marks::put_all(marks, s.tail, s.high, 1);
     arrivals::place(ring, marks, p, src, s.low, s.high);
     let l = arrivals::advance(marks, s.low, top);

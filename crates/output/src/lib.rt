@@ -1,7 +1,7 @@
 // 01 sections 2 and 6: one DATA of a segment, or one PROBE, written at its place in the output.
 ghost use mathlib.Core.Path.{_≡_};
 ghost use mathlib.Core.List.{_++_};
-ghost use Prim.Native.Nat.{_+_, _-_, _≤_, min};
+ghost use Prim.Native.Nat.{_+_, _≤_};
 ghost use lib.ListN.{length};
 ghost use Rattle.ring.specs.Ring.{capacity, span};
 ghost use Rattle.wire.specs.Datagram.{headSize, payloadMost, PROBE, headOf, encode};
@@ -11,25 +11,14 @@ use wire::PAYLOAD_MOST;
 // The bytes before the payload.
 const HEAD: usize = 32;
 
-// a less b, or 0.
-pub fn minus(a: u64, b: u64) -> u64
-    ensures { λ r. ⌜ r ≡ a - b ⌝ }
-{
-    if b < a { a - b } else { 0 }
-}
-
-// The lower of two numbers.
-pub fn least(a: u64, b: u64) -> u64
-    ensures { λ r. ⌜ r ≡ min a b ⌝ }
-{
-    if a < b { a } else { b }
-}
-
 // How many bytes the segment from..to carries.
 fn size(given: u64, from: u64, to: u64) -> u64
     ensures { λ r. ⌜ r ≡ sizeOf given from to ⌝ }
 {
-    least(PAYLOAD_MOST, minus(least(to, given), from))
+    numbers::least(
+        PAYLOAD_MOST,
+        numbers::minus(numbers::least(to, given), from),
+    )
 }
 
 // 1 where a segment to `to` has the END.

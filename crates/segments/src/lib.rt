@@ -63,7 +63,7 @@ pub fn place(p: Row, i: u64) -> usize
 pub fn due(w: Tick, at: u64, n: u64) -> bool
     ensures { λ r. ⌜ r ≡ dueOf w at n ⌝ }
 {
-    if w.every <= output::minus(w.now, at) {
+    if w.every <= numbers::minus(w.now, at) {
         n < w.allowed
     } else {
         false
@@ -74,9 +74,9 @@ pub fn due(w: Tick, at: u64, n: u64) -> bool
 fn new_bytes(l: Line, a: u64) -> u64
     ensures { λ r. ⌜ r ≡ min payloadMost (min (l .given - a) (l .limit - a)) ⌝ }
 {
-    output::least(
+    numbers::least(
         PAYLOAD_MOST,
-        output::least(output::minus(l.given, a), output::minus(l.limit, a)),
+        numbers::least(numbers::minus(l.given, a), numbers::minus(l.limit, a)),
     )
 }
 

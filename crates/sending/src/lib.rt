@@ -69,7 +69,7 @@ pub fn plausible(l: Line, p: Row) -> bool
     if l.given + 1 < p.next {
         return false;
     }
-    if (CAPACITY as u64) < output::minus(l.given, p.acked) {
+    if (CAPACITY as u64) < numbers::minus(l.given, p.acked) {
         return false;
     }
     if SEGMENTS <= p.oldest {
@@ -82,9 +82,9 @@ fn room(l: Line, acked: u64) -> u64
     ensures { λ r. ⌜ r ≡ roomOf l acked ⌝ }
 {
     if l.closed != 1 {
-        return output::least(
-            output::minus(CAPACITY as u64, output::minus(l.given, acked)),
-            output::minus(CEILING, l.given),
+        return numbers::least(
+            numbers::minus(CAPACITY as u64, numbers::minus(l.given, acked)),
+            numbers::minus(CEILING, l.given),
         );
     }
     0
@@ -95,7 +95,7 @@ pub fn give(ring: &mut [u8], l: Line, acked: u64, bytes: &[u8]) -> u64
     requires { ⌜ length (now ring) ≡ capacity ⌝ }
     ensures { λ r. ⌜ Gave l acked (now (ring .entry)) (now (bytes .entry)) r (now (ring .exit)) ⌝ }
 {
-    let n = output::least(bytes.len() as u64, room(l, acked));
+    let n = numbers::least(bytes.len() as u64, room(l, acked));
     let k = n as usize;
     ring::ring_put(ring, l.given, &bytes[0..k]);
     n
@@ -173,7 +173,7 @@ fn ago(w: Tick, probed: u64) -> bool
     if probed == 0 {
         return true;
     }
-    w.every <= output::minus(w.now, probed - 1)
+    w.every <= numbers::minus(w.now, probed - 1)
 }
 
 // Whether a PROBE is to leave, after `sent` others.

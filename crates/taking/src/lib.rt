@@ -28,7 +28,7 @@ pub fn take(ring: &[u8], s: Scalars, out: &mut [u8]) -> Scalars
     requires { ⌜ Ranged s ⌝ }
     ensures { λ r. ⌜ Takes (now (ring .entry)) s (now (out .entry)) (now (out .exit)) r ⌝ }
 {
-    let n = arrivals::least(out.len() as u64, s.low - s.taken);
+    let n = numbers::least(out.len() as u64, s.low - s.taken);
     let k = n as usize;
     ring::ring_get(&mut out[0..k], ring, s.taken);
     Scalars {
