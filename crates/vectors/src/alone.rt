@@ -2,6 +2,7 @@
 ghost use Prim.Native.Nat.{_<_};
 ghost use lib.ListN.{length};
 use super::datagram;
+use super::show;
 
 struct Offered {
     high: u64,

@@ -1,4 +1,5 @@
 // Datagrams: judged and heard.
+use super::show;
 
 // Its form alone.
 pub fn form(line: &[u8]) {

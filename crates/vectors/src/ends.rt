@@ -1,5 +1,6 @@
 // Lines for one end: the calls of 01 section 1 on its buffers, and what they answer.
 use super::datagram;
+use super::show;
 
 // open epoch E R I, with a table of `words W`.
 fn open(line: &[u8], table: &mut [u64], outgoing: &[u8], incoming: &[u8], marks: &mut [u8]) {

@@ -3,6 +3,7 @@ mod alone;
 mod datagram;
 mod ends;
 mod play;
+mod show;
 
 fn main() {
     let mut text = [0u8; 16384];

@@ -3,6 +3,7 @@ ghost use Prim.Native.Nat.{_≤_, _<_};
 ghost use lib.ListN.{length};
 use super::alone;
 use super::ends;
+use super::show;
 use table::TABLE_WORDS;
 
 // The size of a line without its newline.

@@ -1,4 +1,4 @@
-// What `vectors` writes on standard output: bytes, numbers and datagrams, each answer after a space.
+// What is written on standard output: bytes, numbers and datagrams, each answer after a space.
 ghost use Prim.Native.Nat.{_≤_};
 use libc::STDOUT_FILENO;
 

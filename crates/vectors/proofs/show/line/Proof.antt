@@ -1,9 +1,9 @@
--- `show::line` meets its contract. Assumes nothing.
+-- `vectors::show::line` meets its contract. Assumes nothing.
 use borrow.Author.Needs.{needs}
 use Prim.Native.Nat.{_-_, _≤_}
 use lib.ListN.{length}
-use Rattle.show.proofs.line.Statement.{statement}
-use Rattle.show.proofs.line.Tie as tie
+use Rattle.vectors.proofs.show.line.Statement.{statement}
+use Rattle.vectors.proofs.show.line.Tie as tie
 
 abbrev Inv-loop : tie.InvT-loop
 Inv-loop d i₀ i = i ≤ length d

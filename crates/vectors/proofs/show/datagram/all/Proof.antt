@@ -1,10 +1,10 @@
--- `show::datagram::all` meets its contract. Assumes nothing.
+-- `vectors::show::datagram::all` meets its contract. Assumes nothing.
 use borrow.Author.Needs.{needs}
 use mathlib.Core.Path.{_≡_}
 use Prim.Native.Nat.{_-_, _≤_}
 use lib.ListN.{length}
-use Rattle.show.proofs.datagram.all.Statement.{statement}
-use Rattle.show.proofs.datagram.all.Tie as tie
+use Rattle.vectors.proofs.show.datagram.all.Statement.{statement}
+use Rattle.vectors.proofs.show.datagram.all.Tie as tie
 
 abbrev Inv-loop : tie.InvT-loop
 Inv-loop out shown n at₀ k₀ at k = (n ≡ length out) × ((at ≤ n) × (k ≤ at))
