@@ -1,3 +1,2 @@
 -- What the proofs of several functions share.
-mod FillingLaws
 mod FillLaws

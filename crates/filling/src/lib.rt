@@ -1,82 +1,8 @@
 // 01 section 5: bytes that arrive are kept in a ring, with marks for what lies beyond the lowest missing position and before the last stretch.
-ghost use mathlib.Core.Path.{_≡_};
 ghost use Prim.Native.Nat.{_+_, _≤_, _<_};
 ghost use lib.ListN.{length};
-ghost use Rattle.ring.specs.Ring.{capacity};
-ghost use Rattle.marks.specs.Stretches.{Unmarked};
 ghost use Rattle.receiving.specs.Calls.{Lent, Room, New, Fills, Hears};
 use receiving::Scalars;
-
-// Over positions of which some have arrived: the last stretch gets its marks, and is empty after.
-fn slow(ring: &mut [u8], marks: &mut [u8], s: Scalars, p: u64, src: &[u8]) -> Scalars
-    requires { ⌜ Lent s (now ring) (now marks) ⌝ }
-    requires { ⌜ New s p (length (now src)) ⌝ }
-    ensures { λ r. ⌜ Fills (now (ring .entry)) (now (marks .entry)) s p (now (src .entry)) (now (ring .exit)) (now (marks .exit)) r ⌝ }
-{
-    let top = numbers::most(s.high, p + src.len() as u64);
-    marks::put_all(marks, s.tail, s.high, 1);
-    arrivals::place(ring, marks, p, src, s.low, s.high);
-    let l = arrivals::advance(marks, s.low, top);
-    Scalars {
-        taken: s.taken,
-        low: l,
-        tail: top,
-        high: top,
-        known: s.known,
-        end: s.end,
-    }
-}
-
-// Beyond a new hole: the last stretch gets its marks, and the bytes are the next one.
-fn leap(ring: &mut [u8], marks: &mut [u8], s: Scalars, p: u64, src: &[u8]) -> Scalars
-    requires { ⌜ Lent s (now ring) (now marks) ⌝ }
-    requires { ⌜ New s p (length (now src)) ⌝ }
-    requires { ⌜ s .high < p ⌝ }
-    ensures { λ r. ⌜ Fills (now (ring .entry)) (now (marks .entry)) s p (now (src .entry)) (now (ring .exit)) (now (marks .exit)) r ⌝ }
-{
-    let e = p + src.len() as u64;
-    arrivals::write(ring, p, src, p);
-    marks::put_all(marks, s.tail, s.high, 1);
-    Scalars {
-        taken: s.taken,
-        low: s.low,
-        tail: p,
-        high: e,
-        known: s.known,
-        end: s.end,
-    }
-}
-
-// In order, and none of the positions has arrived: one copy, and then low passes what has arrived beyond.
-fn follow(ring: &mut [u8], marks: &mut [u8], s: Scalars, p: u64, src: &[u8]) -> Scalars
-    requires { ⌜ Lent s (now ring) (now marks) ⌝ }
-    requires { ⌜ New s p (length (now src)) ⌝ }
-    requires { ⌜ (p ≤ s .low) × (p + length (now src) ≤ s .tail) ⌝ }
-    requires { ⌜ Unmarked (now marks) (s .low) (p + length (now src)) 0 ⌝ }
-    ensures { λ r. ⌜ Fills (now (ring .entry)) (now (marks .entry)) s p (now (src .entry)) (now (ring .exit)) (now (marks .exit)) r ⌝ }
-{
-    let e = p + src.len() as u64;
-    arrivals::write(ring, p, src, s.low);
-    let l = arrivals::advance(marks, e, s.tail);
-    if l == s.tail {
-        return Scalars {
-            taken: s.taken,
-            low: s.high,
-            tail: s.high,
-            high: s.high,
-            known: s.known,
-            end: s.end,
-        };
-    }
-    Scalars {
-        taken: s.taken,
-        low: l,
-        tail: s.tail,
-        high: s.high,
-        known: s.known,
-        end: s.end,
-    }
-}
 
 // In order. Where nothing lies beyond the lowest missing position it is one copy, and no mark is touched.
 fn in_order(ring: &mut [u8], marks: &mut [u8], s: Scalars, p: u64, src: &[u8]) -> Scalars
@@ -98,12 +24,12 @@ fn in_order(ring: &mut [u8], marks: &mut [u8], s: Scalars, p: u64, src: &[u8]) -
         };
     }
     if s.tail < e {
-        return slow(ring, marks, s, p, src);
+        return holes::slow(ring, marks, s, p, src);
     }
     if marks::any(marks, s.low, e) != 0 {
-        return slow(ring, marks, s, p, src);
+        return holes::slow(ring, marks, s, p, src);
     }
-    follow(ring, marks, s, p, src)
+    holes::follow(ring, marks, s, p, src)
 }
 
 // Beyond the lowest missing position. Right after all that has arrived the last stretch grows, and no mark is touched.
@@ -125,9 +51,9 @@ fn beyond(ring: &mut [u8], marks: &mut [u8], s: Scalars, p: u64, src: &[u8]) -> 
         };
     }
     if s.high < p {
-        return leap(ring, marks, s, p, src);
+        return holes::leap(ring, marks, s, p, src);
     }
-    slow(ring, marks, s, p, src)
+    holes::slow(ring, marks, s, p, src)
 }
 
 // A DATA's bytes.

@@ -1,8 +1,8 @@
--- `filling::follow` meets its contract. Assumes nothing.
-use Rattle.filling.proofs.FillLaws.{hole-fills, tail-fills}
+-- `holes::follow` meets its contract. Assumes nothing.
+use Rattle.holes.proofs.HoleLaws.{hole-fills, tail-fills}
 use borrow.Author.Needs.{needs}
-use Rattle.filling.proofs.follow.Statement.{statement}
-use Rattle.filling.proofs.follow.Tie as tie
+use Rattle.holes.proofs.follow.Statement.{statement}
+use Rattle.holes.proofs.follow.Tie as tie
 
 add-e : tie.Need-add-e
 add-e c = search needs

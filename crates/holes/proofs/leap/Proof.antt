@@ -1,8 +1,8 @@
--- `filling::leap` meets its contract. Assumes nothing.
-use Rattle.filling.proofs.FillLaws.{leap-fills}
+-- `holes::leap` meets its contract. Assumes nothing.
+use Rattle.holes.proofs.HoleLaws.{leap-fills}
 use borrow.Author.Needs.{needs}
-use Rattle.filling.proofs.leap.Statement.{statement}
-use Rattle.filling.proofs.leap.Tie as tie
+use Rattle.holes.proofs.leap.Statement.{statement}
+use Rattle.holes.proofs.leap.Tie as tie
 
 add-e : tie.Need-add-e
 add-e c = search needs

@@ -1,8 +1,8 @@
--- `filling::slow` meets its contract. Assumes nothing.
-use Rattle.filling.proofs.FillLaws.{slow-fills}
+-- `holes::slow` meets its contract. Assumes nothing.
+use Rattle.holes.proofs.HoleLaws.{slow-fills}
 use borrow.Author.Needs.{needs}
-use Rattle.filling.proofs.slow.Statement.{statement}
-use Rattle.filling.proofs.slow.Tie as tie
+use Rattle.holes.proofs.slow.Statement.{statement}
+use Rattle.holes.proofs.slow.Tie as tie
 
 add-most : tie.Need-add-most
 add-most c = search needs
