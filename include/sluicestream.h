@@ -6,7 +6,8 @@
  * Each call answers an int64_t: a value >= 0, or -k where the call was refused with k (SLUICE_REFUSED_..).
  * A refused call has changed nothing, and every call ends and stays inside the buffers that it was lent,
  * whatever they hold. Buffers are passed as a pointer and a length in elements. They may be longer than asked for;
- * what is beyond is never touched. No two of the buffers that one call is lent may overlap.
+ * what is beyond is never touched. No two of the buffers that one call is lent may overlap. A call takes less than
+ * 1,024 bytes of stack.
  *
  * A host loop, for one end:
  *
