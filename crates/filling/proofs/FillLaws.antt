@@ -11,7 +11,8 @@ use borrow.Author.Tests.{eq-eqb, ne-eqb}
 use Rattle.ring.specs.Ring.{capacity}
 use Rattle.receiving.specs.Receiving.{Receiving, Cell, at, fillCells, fillOf, hearOf, endOf, arrived, arrivedOf, cellsOf, Ranged, Clear, Sound, receivingOf}
 use Rattle.arrivals.specs.Marks.{of, mark}
-use Rattle.marks.specs.Stretches.{Marked, Unmarked}
+use Rattle.marks.specs.Stretches.{Marked}
+use Rattle.finding.specs.Finding.{Unmarked}
 use Rattle.arrivals.specs.Steps.{Moves, Written, Stored, Placed, Advanced}
 use Rattle.receiving.specs.Calls.{New, Fills, Hears}
 use Rattle.filling.proofs.FillingLaws.{filling-cells, cells-same, clear-same, lays-filling, moves-cells, order-filling, ahead-filling, again-filling, after-clear, after-beyond, after-top, follow-clear, follow-beyond, follow-top}

@@ -3,7 +3,7 @@ ghost use mathlib.Core.Path.{_≡_};
 ghost use Prim.Native.Nat.{_+_, _≤_, _<_};
 ghost use lib.ListN.{length};
 ghost use Rattle.ring.specs.Ring.{capacity};
-ghost use Rattle.marks.specs.Stretches.{Unmarked};
+ghost use Rattle.finding.specs.Finding.{Unmarked};
 ghost use Rattle.receiving.specs.Calls.{Lent, Room, New, Fills, Hears};
 use receiving::Scalars;
 
@@ -100,7 +100,7 @@ fn in_order(ring: &mut [u8], marks: &mut [u8], s: Scalars, p: u64, src: &[u8]) -
     if s.tail < e {
         return slow(ring, marks, s, p, src);
     }
-    if marks::any(marks, s.low, e) != 0 {
+    if finding::any(marks, s.low, e) != 0 {
         return slow(ring, marks, s, p, src);
     }
     follow(ring, marks, s, p, src)
