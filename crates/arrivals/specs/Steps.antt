@@ -3,7 +3,8 @@ use Prim.Native.Nat.{ℕ, _+_, _-_, _≤_, _<_, max}
 use mathlib.Core.Path.{_≡_}
 use mathlib.Core.List.{List}
 use lib.ListN.{length, getD}
-pub use Rattle.marks.specs.Stretches.{Same, Runs, Unmarked}
+pub use Rattle.marks.specs.Stretches.{Same}
+pub use Rattle.finding.specs.Finding.{Runs, Unmarked}
 use Rattle.arrivals.specs.Marks.{of, mark}
 
 -- bytes f and marks g, by position: in a .. b - 1, where there was no mark, the byte of bs, which starts at p; where there was one, as it was; then all are marked

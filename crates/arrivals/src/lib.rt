@@ -51,7 +51,7 @@ pub fn advance(marks: &mut [u8], low: u64, top: u64) -> u64
     requires { ⌜ ((low ≤ top) × (top ≤ low + capacity)) × (top ≤ ceiling) ⌝ }
     ensures { λ r. ⌜ Advanced (now (marks .entry)) low top (now (marks .exit)) r ⌝ }
 {
-    let l = marks::run(marks, low, top);
+    let l = finding::run(marks, low, top);
     marks::put_all(marks, low, l, 0);
     l
 }
@@ -64,7 +64,7 @@ fn lay(ring: &mut [u8], marks: &mut [u8], p: u64, src: &[u8], a: u64, edge: u64)
     ensures { λ _. ⌜ Laid (now (ring .entry)) (now (marks .entry)) p (now (src .entry)) a edge (p + length (now (src .entry))) (now (ring .exit)) (now (marks .exit)) ⌝ }
 {
     let end = p + src.len() as u64;
-    let l = marks::run(marks, a, edge);
+    let l = finding::run(marks, a, edge);
     store(ring, marks, p, src, l, edge);
     write(ring, p, src, edge);
     marks::put_all(marks, edge, end, 1);
@@ -80,7 +80,7 @@ pub fn place(ring: &mut [u8], marks: &mut [u8], p: u64, src: &[u8], low: u64, hi
     let a = numbers::most(p, low);
     let h = numbers::most(a, high);
     let edge = numbers::least(h, p + src.len() as u64);
-    if marks::any(marks, a, edge) == 0 {
+    if finding::any(marks, a, edge) == 0 {
         lay(ring, marks, p, src, a, a);
         return;
     }

@@ -11,7 +11,7 @@ use borrow.Author.Tests.{eq-eqb, ne-eqb}
 use Rattle.ring.specs.Ring.{capacity}
 use Rattle.receiving.specs.Receiving.{Receiving, at, hearOf, endOf, arrived, arrivedOf, Ranged, Sound, receivingOf}
 use Rattle.arrivals.specs.Marks.{of, mark}
-use Rattle.marks.specs.Stretches.{Unmarked}
+use Rattle.finding.specs.Finding.{Unmarked}
 use Rattle.arrivals.specs.Steps.{Written}
 use Rattle.receiving.specs.Calls.{New, Fills, Hears}
 use Rattle.holes.specs.FillingLaws.{filling-cells, cells-same, order-filling, again-filling}

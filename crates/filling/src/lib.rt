@@ -26,7 +26,7 @@ fn in_order(ring: &mut [u8], marks: &mut [u8], s: Scalars, p: u64, src: &[u8]) -
     if s.tail < e {
         return holes::slow(ring, marks, s, p, src);
     }
-    if marks::any(marks, s.low, e) != 0 {
+    if finding::any(marks, s.low, e) != 0 {
         return holes::slow(ring, marks, s, p, src);
     }
     holes::follow(ring, marks, s, p, src)

@@ -8,7 +8,8 @@ use lib.ListN.{length}
 use Rattle.ring.specs.Ring.{capacity}
 use Rattle.receiving.specs.Receiving.{Cell, fillCells, arrived, arrivedOf, Ranged, Clear, Sound}
 use Rattle.arrivals.specs.Marks.{of, mark}
-use Rattle.marks.specs.Stretches.{Marked, Unmarked}
+use Rattle.marks.specs.Stretches.{Marked}
+use Rattle.finding.specs.Finding.{Unmarked}
 use Rattle.arrivals.specs.Steps.{Moves, Written, Stored, Placed, Advanced}
 use Rattle.receiving.specs.Calls.{New, Fills}
 use Rattle.holes.specs.FillingLaws.{filling-cells, cells-same, clear-same, lays-filling, moves-cells, order-filling, after-clear, after-beyond, after-top, follow-clear, follow-beyond, follow-top}

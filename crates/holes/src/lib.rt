@@ -1,7 +1,7 @@
 // 01 section 5: bytes that arrive where there are holes. What lies beyond the lowest missing position has marks, but for the last stretch.
 ghost use Prim.Native.Nat.{_+_, _≤_, _<_};
 ghost use lib.ListN.{length};
-ghost use Rattle.marks.specs.Stretches.{Unmarked};
+ghost use Rattle.finding.specs.Finding.{Unmarked};
 ghost use Rattle.receiving.specs.Calls.{Lent, New, Fills};
 use receiving::Scalars;
 

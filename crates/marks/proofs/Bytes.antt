@@ -1,4 +1,4 @@
--- Marks by the byte: one bit changed is one mark put, a byte of 255 or 0 is eight marks. Only here and in MarkLaws is it opened how a mark is kept. Assumes nothing.
+-- Marks by the byte: one bit changed is one mark put, a byte of 255 or 0 is eight marks. Only here and in the laws of specs is it opened how a mark is kept. Assumes nothing.
 use mathlib.Core.Path.{_≡_, refl, sym, ap, _∙_}
 use mathlib.Core.Logic.{_⊎_, inl, inr, ⊎-elim}
 use mathlib.Core.List.{List}
@@ -7,18 +7,17 @@ use native.Mathlib.Nat.{zero-mul, zero-mod}
 use native.Mathlib.Decide.{ℕ-discrete}
 use native.Mathlib.Omega.{arith}
 use lib.ListN.{length, getD, set, length-set, take, drop, length-take, length-drop, replicate, length-replicate, getD-replicate}
-use lib.Seq.{getD-set-same, getD-set-other, getD-take, getD-drop}
+use lib.Seq.{getD-set-same, getD-set-other}
 use lib.Bits.{bitAnd, bitOr, bitXor, xor-zero-r, and-mask}
 use borrow.Rule.Slice.PartMut.{putMid, same-len-mid}
 use Rattle.laws.specs.Split.{split}
 use Rattle.laws.specs.Bits.{bit}
 use Rattle.laws.specs.BitsLaws.{one-shl, set-here, set-there, clear-here, clear-there}
 use Rattle.laws.specs.PartLaws.{in-part, before-part, after-part}
-use Rattle.copies.specs.Search.{Other}
 use Rattle.ring.specs.Ring.{capacity}
 use Rattle.marks.specs.Marks.{mark}
-use Rattle.marks.specs.MarkLaws.{bit-none}
-use Rattle.marks.specs.Stretches.{Put, Marked, Skips, Straight}
+use Rattle.marks.specs.ByteLaws.{mark-byte}
+use Rattle.marks.specs.Stretches.{Put, Marked, Straight}
 
 put-byte : (m : List ℕ) (q v w : ℕ) → length m ≡ capacity → bit w (q % 8) ≡ v
     → ((k : ℕ) → (k ≡ q % 8 → ⊥) → bit w k ≡ bit (getD m (q % capacity / 8) 0) k)
@@ -57,33 +56,8 @@ pub read-mark : (m : List ℕ) (q i : ℕ) → i ≡ q % capacity / 8 → bitAnd
 unfolding bit mark
 read-mark m q i e = rw e (and-mask (getD m (q % capacity / 8) 0 / 2 ^ (q % 8)) 1)
 
--- a byte of 255 has every mark
-bit-all : (k : ℕ) → k < 8 → bit 255 k ≡ 1
-unfolding bit
-bit-all zero h = refl
-bit-all (suc zero) h = refl
-bit-all (suc (suc zero)) h = refl
-bit-all (suc (suc (suc zero))) h = refl
-bit-all (suc (suc (suc (suc zero)))) h = refl
-bit-all (suc (suc (suc (suc (suc zero))))) h = refl
-bit-all (suc (suc (suc (suc (suc (suc zero)))))) h = refl
-bit-all (suc (suc (suc (suc (suc (suc (suc zero))))))) h = refl
-bit-all (suc (suc (suc (suc (suc (suc (suc (suc k)))))))) h = absurd (omega arith)
-
-bit-byte : (v k : ℕ) → v < 2 → k < 8 → bit (v * 255) k ≡ v
-bit-byte zero k h l = bit-none k
-bit-byte (suc zero) k h l = bit-all k l
-bit-byte (suc (suc v)) k h l = absurd (omega arith)
-
 -- n whole bytes from index at on are the positions a .. b - 1
 module _ (m : List ℕ) (a b at n : ℕ) (full : length m ≡ capacity) (s : Straight a b) (ea : at ≡ a % capacity / 8) (en : n ≡ (b - a) / 8) where
-  byte-at : (q : ℕ) → a ≤ q → q < b → q % capacity / 8 ≡ at + (q - a) / 8
-  byte-at q lo hi =
-      let f = s .fits in
-      let w = s .whole .from in
-      let i : q % capacity ≡ a % capacity + (q - a) = omega arith in
-      omega arith
-
   byte-in : (q : ℕ) → a ≤ q → q < b → (q - a) / 8 < n
   byte-in q lo hi =
       let w = s .whole .from in
@@ -99,9 +73,6 @@ module _ (m : List ℕ) (a b at n : ℕ) (full : length m ≡ capacity) (s : Str
 
   length-bytes : length (take n (drop at m)) ≡ n
   length-bytes = let w = within in simp (length-take, length-drop) (omega arith)
-
-  bytes-at : (j : ℕ) → j < n → getD (take n (drop at m)) j 0 ≡ getD m (at + j) 0
-  bytes-at j h = getD-take n (drop at m) j 0 h ∙ getD-drop at m j 0
 
   -- any other position stands in another byte
   byte-apart : (q x : ℕ) → q % capacity ≡ (a + x) % capacity → b - a ≤ x → x < capacity → (q % capacity / 8 < at) ⊎ (at + n ≤ q % capacity / 8)
@@ -130,7 +101,6 @@ module _ (m : List ℕ) (a b at n : ℕ) (full : length m ≡ capacity) (s : Str
         rw g
 
     into-bytes : (q : ℕ) → a ≤ q → q < b → mark (putMid at n m y) q ≡ v
-    unfolding mark
     into-bytes q lo hi =
         let w = within in
         let l = length-bytes in
@@ -140,7 +110,7 @@ module _ (m : List ℕ) (a b at n : ℕ) (full : length m ≡ capacity) (s : Str
         let k : j < length (take n (drop at m)) = omega arith in
         let g : getD (putMid at n m y) (at + j) 0 ≡ v * 255 =
         in-part m y at n (omega arith) j (omega arith) ∙ ap (λ (x : List ℕ). getD x j 0) filled ∙ getD-replicate (length (take n (drop at m))) j (v * 255) 0 k in
-        rw (byte-at q lo hi, g) (bit-byte v (q % 8) bin (omega arith))
+        mark-byte (putMid at n m y) q s ea lo hi bin g
 
     filled-bytes : Marked m a b v (putMid at n m y)
     filled-bytes =
@@ -154,28 +124,8 @@ module _ (m : List ℕ) (a b at n : ℕ) (full : length m ≡ capacity) (s : Str
           into = into-bytes;
         }
 
-  passed-bytes : (v z : ℕ) → v < 2 → Other (take n (drop at m)) (v * 255) 0 z → Skips m v a b (a + z * 8)
-  unfolding mark
-  passed-bytes v z bin f =
-      let l = length-bytes in
-      let h = f .high in
-      let o = s .whole .order in record {
-        a-l = omega arith;
-        l-b = omega arith;
-        all = λ q lo hi.
-            let j : ℕ = (q - a) / 8 in
-            let u : j < z = omega arith in
-            let g : getD m (at + j) 0 ≡ v * 255 = sym (bytes-at j (omega arith)) ∙ f .before j u (omega arith) in
-            rw (byte-at q lo (omega arith), g) (bit-byte v (q % 8) bin (omega arith));
-      }
-
--- the two, with the numbers as the code has them
+-- with the numbers as the code has them
 pub marked-bytes : {m y : List ℕ} {a b at v : ℕ} → length m ≡ capacity → v < 2 → Straight a b → at ≡ a % capacity / 8
     → y ≡ replicate (length (take (at + (b - a) / 8 - at) (drop at m))) (v * 255)
     → Marked m a b v (putMid at (at + (b - a) / 8 - at) m y)
 marked-bytes {m} {y} {a} {b} {at} {v} full h s ea e = filled-bytes m a b at (at + (b - a) / 8 - at) full s ea (omega arith) y v h e
-
-pub skips-bytes : {m : List ℕ} {a b at v z : ℕ} → Other (take (at + (b - a) / 8 - at) (drop at m)) (v * 255) 0 z → length m ≡ capacity → v < 2 → Straight a b
-    → at ≡ a % capacity / 8
-    → Skips m v a b (a + z * 8)
-skips-bytes {m} {a} {b} {at} {v} {z} f full h s ea = passed-bytes m a b at (at + (b - a) / 8 - at) full s ea (omega arith) v z h f

@@ -1,5 +1,5 @@
 -- Laws of stretches, by position: none, one more, joined. Nothing here knows how a mark is kept. Assumes nothing.
-use mathlib.Core.Path.{_≡_, refl, sym, _∙_}
+use mathlib.Core.Path.{_≡_, refl, _∙_}
 use mathlib.Core.Logic.{⊎-elim}
 use mathlib.Core.List.{List}
 use Prim.Native.Nat.{ℕ, _+_, _-_, _%_, _≤_, _<_}
@@ -8,8 +8,7 @@ use native.Mathlib.Nat.{le-antisymm}
 use Rattle.laws.specs.Split.{split}
 use Rattle.ring.specs.Ring.{capacity}
 use Rattle.marks.specs.Marks.{mark}
-use Rattle.marks.specs.MarkLaws.{mark-lt}
-use Rattle.marks.specs.Stretches.{Put, Marked, Skips, Finds, Runs, Unmarked, Up}
+use Rattle.marks.specs.Stretches.{Put, Marked, Up}
 
 pub marked-none : {m : List ℕ} {a v : ℕ} → Marked m a a v m
 marked-none = record {
@@ -54,63 +53,3 @@ marked-three {b = b} p q r u far up =
     let k : b - b % 8 ≤ b = omega arith in
     let l : b ≤ b - b % 8 + 7 = omega arith in
     marked-join (marked-join p q i (omega arith) (omega arith)) r (omega arith) k up
-
-pub skips-none : {m : List ℕ} {v a b : ℕ} → a ≤ b → Skips m v a b a
-skips-none h = record { a-l = omega arith; l-b = h; all = λ q l k. absurd (omega arith) }
-
-pub skips-more : {m : List ℕ} {v a b q r : ℕ} → Skips m v a b q → r ≡ mark m q → r ≡ v → q < b → Skips m v a b (q + 1)
-skips-more {q = q} x e f lt =
-    let l = x .a-l in record {
-      a-l = omega arith;
-      l-b = omega arith;
-      all = λ j h k. ⊎-elim (λ lt. x .all j h lt) (λ ge. let i : j ≡ q = omega arith in rw i (sym e ∙ f)) (split j q);
-    }
-
-pub skips-within : {m : List ℕ} {v a s b l : ℕ} → Skips m v a s l → s ≤ b → Skips m v a b l
-skips-within x h = let k = x .l-b in record { a-l = x .a-l; l-b = omega arith; all = x .all }
-
-pub skips-join : {m : List ℕ} {v a s b l r : ℕ} → Skips m v a s l → s ≤ l → Skips m v s b r → Skips m v a b r
-skips-join {s = s} x h y =
-    let i = x .a-l in
-    let j = x .l-b in
-    let k = y .a-l in record {
-      a-l = omega arith;
-      l-b = y .l-b;
-      all = λ q lo hi. ⊎-elim (λ lt. x .all q lo (omega arith)) (λ ge. y .all q ge hi) (split q s);
-    }
-
--- the search ends at q: its mark is another, or it is the end
-pub finds-stop : {m : List ℕ} {v a b q r : ℕ} → Skips m v a b q → r ≡ mark m q → (r ≡ v → ⊥) → Finds m v a b q
-finds-stop x e n = record { skips = x; stop = λ h f. n (e ∙ f) }
-
-pub finds-end : {m : List ℕ} {v a b q : ℕ} → Skips m v a b q → b ≤ q → Finds m v a b q
-finds-end x h = record { skips = x; stop = λ k. absurd (omega arith) }
-
-pub finds-within : {m : List ℕ} {v a x b l : ℕ} → Finds m v a x l → l < x → Up a x → 16 ≤ b - a → Finds m v a b l
-finds-within r h u far = let i = u .high in record { skips = skips-within (r .skips) (omega arith); stop = λ _. r .stop h }
-
--- one by one up to x, whole bytes up to z, and on
-pub finds-over : {m : List ℕ} {v a x y z b l r : ℕ} → Finds m v a x l → x ≤ l → Skips m v x y z → Finds m v z b r → Finds m v a b r
-finds-over {x = x} {y = y} {z = z} p h s r =
-    let i = s .a-l in
-    let t = skips-join (p .skips) h s in
-    let j = t .a-l in
-    let k = r .skips .a-l in record {
-      skips = record {
-        a-l = omega arith;
-        l-b = r .skips .l-b;
-        all = λ q lo hi. ⊎-elim (λ lt. t .all q lo lt) (λ ge. r .skips .all q ge hi) (split q z);
-      };
-      stop = r .stop;
-    }
-
-pub runs-found : {m : List ℕ} {low top l : ℕ} → Finds m 1 low top l → Runs m low top l
-runs-found {m} {low} {top} {l} f = record {
-  low-l = f .skips .a-l;
-  l-top = f .skips .l-b;
-  marked = λ q h k. let e = f .skips .all q h k in omega arith;
-  stop = λ h. let n = f .stop h in let b = mark-lt m l in omega arith;
-}
-
-pub unmarked-found : {m : List ℕ} {a b l : ℕ} → Finds m 0 a b l → b ≤ l → Unmarked m a b 0
-unmarked-found f h = record { none = λ e q lo hi. f .skips .all q lo (omega arith) }

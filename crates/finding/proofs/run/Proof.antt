@@ -1,8 +1,8 @@
--- `marks::run` meets its contract. Assumes nothing.
+-- `finding::run` meets its contract. Assumes nothing.
 use borrow.Author.Needs.{needs}
-use Rattle.marks.proofs.StretchLaws.{runs-found}
-use Rattle.marks.proofs.run.Statement.{statement}
-use Rattle.marks.proofs.run.Tie as tie
+use Rattle.finding.proofs.FindLaws.{runs-found}
+use Rattle.finding.proofs.run.Statement.{statement}
+use Rattle.finding.proofs.run.Tie as tie
 
 test-requires : tie.Need-test-requires
 test-requires c κs = search needs

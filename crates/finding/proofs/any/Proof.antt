@@ -1,8 +1,8 @@
--- `marks::any` meets its contract. Assumes nothing.
+-- `finding::any` meets its contract. Assumes nothing.
 use borrow.Author.Needs.{needs}
-use Rattle.marks.proofs.StretchLaws.{unmarked-found}
-use Rattle.marks.proofs.any.Statement.{statement}
-use Rattle.marks.proofs.any.Tie as tie
+use Rattle.finding.proofs.FindLaws.{unmarked-found}
+use Rattle.finding.proofs.any.Statement.{statement}
+use Rattle.finding.proofs.any.Tie as tie
 
 find-requires : tie.Need-find-requires
 find-requires c κs = search needs

@@ -1,8 +1,8 @@
--- `marks::find` meets its contract. Assumes nothing.
+-- `finding::find` meets its contract. Assumes nothing.
 use borrow.Author.Needs.{needs}
-use Rattle.marks.proofs.StretchLaws.{finds-within, finds-over}
-use Rattle.marks.proofs.find.Statement.{statement}
-use Rattle.marks.proofs.find.Tie as tie
+use Rattle.finding.proofs.FindLaws.{finds-within, finds-over}
+use Rattle.finding.proofs.find.Statement.{statement}
+use Rattle.finding.proofs.find.Tie as tie
 
 sub-if1 : tie.Need-sub-if1
 sub-if1 c = search needs

@@ -1,10 +1,10 @@
--- `marks::find_each` meets its contract. Assumes nothing.
+-- `finding::find_each` meets its contract. Assumes nothing.
 use Prim.Native.Nat.{_-_}
-use Rattle.marks.specs.Stretches.{Skips}
+use Rattle.finding.specs.Finding.{Skips}
 use borrow.Author.Needs.{needs}
-use Rattle.marks.proofs.StretchLaws.{skips-none, skips-more, finds-stop, finds-end}
-use Rattle.marks.proofs.find_each.Statement.{statement}
-use Rattle.marks.proofs.find_each.Tie as tie
+use Rattle.finding.proofs.FindLaws.{skips-none, skips-more, finds-stop, finds-end}
+use Rattle.finding.proofs.find_each.Statement.{statement}
+use Rattle.finding.proofs.find_each.Tie as tie
 
 abbrev Inv-loop : tie.InvT-loop
 Inv-loop m a b v q₀ q = Skips m v a b q

@@ -1,8 +1,8 @@
--- `marks::skip_bytes` meets its contract. Assumes nothing.
+-- `finding::skip_bytes` meets its contract. Assumes nothing.
 use borrow.Author.Needs.{needs}
-use Rattle.marks.proofs.Bytes.{skips-bytes}
-use Rattle.marks.proofs.skip_bytes.Statement.{statement}
-use Rattle.marks.proofs.skip_bytes.Tie as tie
+use Rattle.finding.proofs.FindLaws.{skips-bytes}
+use Rattle.finding.proofs.skip_bytes.Statement.{statement}
+use Rattle.finding.proofs.skip_bytes.Tie as tie
 
 byte-requires : tie.Need-byte-requires
 byte-requires c κs = search needs

@@ -1,8 +1,8 @@
--- `marks::skip_whole` meets its contract. Assumes nothing.
+-- `finding::skip_whole` meets its contract. Assumes nothing.
 use borrow.Author.Needs.{needs}
-use Rattle.marks.proofs.StretchLaws.{skips-within, skips-join}
-use Rattle.marks.proofs.skip_whole.Statement.{statement}
-use Rattle.marks.proofs.skip_whole.Tie as tie
+use Rattle.finding.proofs.FindLaws.{skips-within, skips-join}
+use Rattle.finding.proofs.skip_whole.Statement.{statement}
+use Rattle.finding.proofs.skip_whole.Tie as tie
 
 seam-requires : tie.Need-seam-requires
 seam-requires c κs = search needs
