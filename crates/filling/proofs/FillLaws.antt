@@ -7,7 +7,7 @@ use native.Mathlib.Omega.{arith}
 use lib.ListN.{length}
 use lib.Dec.{eqb}
 use mathlib.Core.Bool.{true, false}
-use borrow.Author.Tests.{eq-eqb, ne-eqb}
+use borrow.Author.Tests.{eq-eqb, ne-eqb, eqb-true}
 use Rattle.ring.specs.Ring.{capacity}
 use Rattle.receiving.specs.Receiving.{Receiving, at, hearOf, endOf, arrived, arrivedOf, Ranged, Sound, receivingOf}
 use Rattle.arrivals.specs.Marks.{of, mark}
@@ -16,6 +16,7 @@ use Rattle.arrivals.specs.Steps.{Written}
 use Rattle.receiving.specs.Calls.{New, Fills, Hears}
 use Rattle.holes.specs.FillingLaws.{filling-cells, cells-same, order-filling, again-filling}
 use Rattle.receiving.specs.ReadLaws.{arrived-before, arrived-within, arrived-beyond, arrived-none, arrived-empty}
+use Rattle.holes.specs.Holes.{Fresh}
 use Rattle.holes.specs.FilledLaws.{filled-read, ahead-fills}
 use Rattle.laws.specs.Split.{split}
 use Rattle.receiving.specs.declared.Scalars.{Scalars}
@@ -132,5 +133,9 @@ hears-none {r} {m} {r′} {m′} {bs} {s} {t} {p} {e} f h =
       read = λ x. rw k (f .read x);
     }
 
-pub unmarked-zero : {m : List ℕ} {a b r : ℕ} → Unmarked m a b r → r ≡ 0 → Unmarked m a b 0
-unmarked-zero u e = rw e at u
+-- what fresh answers
+pub fresh-not : {m : List ℕ} {s : Scalars} {e : ℕ} → false ≡ true → Fresh m s e
+fresh-not u = absurd (let z : _≡_ {A = ℕ} 0 1 = cc in omega arith)
+
+pub fresh-none : {m : List ℕ} {s : Scalars} {e r : ℕ} → e ≤ s .tail → Unmarked m (s .low) e r → eqb r 0 ≡ true → Fresh m s e
+fresh-none {r = r} h u k = record { before = h; none = u .none (eqb-true r 0 k) }

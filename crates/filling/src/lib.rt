@@ -1,8 +1,24 @@
 // 01 section 5: bytes that arrive are kept in a ring, with marks for what lies beyond the lowest missing position and before the last stretch.
+ghost use mathlib.Core.Path.{_≡_};
+ghost use mathlib.Core.Bool.{true};
 ghost use Prim.Native.Nat.{_+_, _≤_, _<_};
 ghost use lib.ListN.{length};
+ghost use Rattle.ring.specs.Ring.{capacity};
 ghost use Rattle.receiving.specs.Calls.{Lent, Room, New, Fills, Hears};
+ghost use Rattle.holes.specs.Holes.{Fresh};
 use receiving::Scalars;
+
+// Whether none of the positions from low to e - 1 has arrived.
+fn fresh(marks: &[u8], s: Scalars, e: u64) -> bool
+    requires { ⌜ length (now marks) ≡ capacity ⌝ }
+    requires { ⌜ (s .low ≤ e) × (e ≤ s .low + capacity) ⌝ }
+    ensures { λ r. ⌜ (r ≡ true → Fresh (now (marks .entry)) s e) ⌝ }
+{
+    if s.tail < e {
+        return false;
+    }
+    finding::any(marks, s.low, e) == 0
+}
 
 // In order. Where nothing lies beyond the lowest missing position it is one copy, and no mark is touched.
 fn in_order(ring: &mut [u8], marks: &mut [u8], s: Scalars, p: u64, src: &[u8]) -> Scalars
@@ -23,13 +39,10 @@ fn in_order(ring: &mut [u8], marks: &mut [u8], s: Scalars, p: u64, src: &[u8]) -
             end: s.end,
         };
     }
-    if s.tail < e {
-        return holes::slow(ring, marks, s, p, src);
+    if fresh(marks, s, e) {
+        return holes::follow(ring, marks, s, p, src);
     }
-    if finding::any(marks, s.low, e) != 0 {
-        return holes::slow(ring, marks, s, p, src);
-    }
-    holes::follow(ring, marks, s, p, src)
+    holes::slow(ring, marks, s, p, src)
 }
 
 // Beyond the lowest missing position. Right after all that has arrived the last stretch grows, and no mark is touched.

@@ -9,11 +9,11 @@ use Rattle.ring.specs.Ring.{capacity}
 use Rattle.receiving.specs.Receiving.{Cell, fillCells, arrived, arrivedOf, Ranged, Clear, Sound}
 use Rattle.arrivals.specs.Marks.{of, mark}
 use Rattle.marks.specs.Stretches.{Marked}
-use Rattle.finding.specs.Finding.{Unmarked}
 use Rattle.arrivals.specs.Steps.{Moves, Written, Stored, Placed, Advanced}
 use Rattle.receiving.specs.Calls.{New, Fills}
 use Rattle.holes.specs.FillingLaws.{filling-cells, cells-same, clear-same, lays-filling, moves-cells, order-filling, after-clear, after-beyond, after-top, follow-clear, follow-beyond, follow-top}
 use Rattle.receiving.specs.ReadLaws.{arrived-before, arrived-within, arrived-beyond, arrived-empty}
+use Rattle.holes.specs.Holes.{Fresh}
 use Rattle.holes.specs.FilledLaws.{filled-read, ahead-fills}
 use Rattle.laws.specs.Split.{split}
 use Rattle.receiving.specs.declared.Scalars.{Scalars}
@@ -92,13 +92,14 @@ leap-fills {r} {m} {r′} {m′} {bs} {s} {p} g n w fl hp =
     (λ x q l h. flat g fl q (omega arith) (omega arith) ∙ x .clear .beyond q (omega arith) (omega arith))
 
 -- in order, with bytes beyond: what has arrived from e on is passed up to l
-follow-fills : {r m r′ m′ bs : List ℕ} {s : Scalars} {p : ℕ} (l tail : ℕ) → Ranged s → New s p (length bs) → Written r p bs (s .low) (p + length bs) r′ → Unmarked m (s .low) (p + length bs) 0
-    → length m′ ≡ length m → p ≤ s .low → p + length bs ≤ s .tail → p + length bs ≤ l → l ≤ tail → tail ≤ s .high
+follow-fills : {r m r′ m′ bs : List ℕ} {s : Scalars} {p : ℕ} (l tail : ℕ) → Ranged s → New s p (length bs) → Written r p bs (s .low) (p + length bs) r′ → Fresh m s (p + length bs)
+    → length m′ ≡ length m → p ≤ s .low → p + length bs ≤ l → l ≤ tail → tail ≤ s .high
     → (Sound s r m → Moves (arrivedOf s m) (p + length bs) (s .high) (arrived tail (s .high) (mark m′)) l)
     → (Sound s r m → (q : ℕ) → tail ≤ q → q < s .high → mark m′ q ≡ 0)
     → Fills r m s p bs r′ m′ (record { taken = s .taken; low = l; tail = tail; high = s .high; known = s .known; end = s .end })
-follow-fills {r} {m} {r′} {m′} {bs} {s} {p} l tail g n w free ms le et el lt th moves bare =
+follow-fills {r} {m} {r′} {m′} {bs} {s} {p} l tail g n w free ms le el lt th moves bare =
     let e : ℕ = p + length bs in
+    let et = free .before in
     let lo = g .taken-low in
     let sh = g .tail-high in
     let hl = g .high-limit in
@@ -107,7 +108,7 @@ follow-fills {r} {m} {r′} {m′} {bs} {s} {p} l tail g n w free ms le et el lt
     let ranged : Ranged (record { taken = s .taken; low = l; tail = tail; high = s .high; known = s .known; end = s .end }) =
     record { taken-low = omega arith; low-tail = lt; tail-high = th; high-limit = hl; high-small = g .high-small } in
     let none : (q : ℕ) → s .low ≤ q → q < e → arrivedOf s m q ≡ 0 =
-    λ q a b. arrived-before (s .tail) (s .high) (mark m) q (omega arith) ∙ free .none refl q a b in
+    λ q a b. arrived-before (s .tail) (s .high) (mark m) q (omega arith) ∙ free .none q a b in
     let top : s .high ≡ max (s .high) e = omega arith in record {
       ring-same = w .beside .length-same;
       marks-same = ms;
@@ -129,12 +130,13 @@ follow-fills {r} {m} {r′} {m′} {bs} {s} {p} l tail g n w free ms le et el lt
           ∙ filling-cells (order-filling (arrivedOf s m) (w .beside .same) (w .into) none lo le (omega arith) up));
     }
 
-module _ {r m r′ m′ bs : List ℕ} {s : Scalars} {p l : ℕ} (g : Ranged s) (n : New s p (length bs)) (w : Written r p bs (s .low) (p + length bs) r′) (free : Unmarked m (s .low) (p + length bs) 0)
-    (ad : Advanced m (p + length bs) (s .tail) m′ l) (le : p ≤ s .low) (et : p + length bs ≤ s .tail) where
+module _ {r m r′ m′ bs : List ℕ} {s : Scalars} {p l : ℕ} (g : Ranged s) (n : New s p (length bs)) (w : Written r p bs (s .low) (p + length bs) r′) (free : Fresh m s (p + length bs))
+    (ad : Advanced m (p + length bs) (s .tail) m′ l) (le : p ≤ s .low) where
   -- up to a hole
   pub hole-fills : (l ≡ s .tail → ⊥) → Fills r m s p bs r′ m′ (record { taken = s .taken; low = l; tail = s .tail; high = s .high; known = s .known; end = s .end })
   hole-fills ne =
       let e : ℕ = p + length bs in
+      let et = free .before in
       let t : ℕ = s .tail in
       let h : ℕ = s .high in
       let lo = g .taken-low in
@@ -144,7 +146,7 @@ module _ {r m r′ m′ bs : List ℕ} {s : Scalars} {p l : ℕ} (g : Ranged s) 
       let u = ad .moves .low-l in
       let v = ad .moves .l-top in
       let k : l < t = let z : (t ≤ l) → ⊥ = λ y. ne (omega arith) in ⊎-elim (λ y. y) (λ y. absurd (z y)) (split l t) in
-      follow-fills l t g n w free (ad .marks-same) le et u v th
+      follow-fills l t g n w free (ad .marks-same) le u v th
       (λ x. record {
         low-l = u;
         l-top = omega arith;
@@ -171,13 +173,14 @@ module _ {r m r′ m′ bs : List ℕ} {s : Scalars} {p l : ℕ} (g : Ranged s) 
   pub tail-fills : l ≡ s .tail → Fills r m s p bs r′ m′ (record { taken = s .taken; low = s .high; tail = s .high; high = s .high; known = s .known; end = s .end })
   tail-fills el =
       let e : ℕ = p + length bs in
+      let et = free .before in
       let t : ℕ = s .tail in
       let h : ℕ = s .high in
       let lo = g .taken-low in
       let th = g .tail-high in
       let hl = g .high-limit in
       let new = n .new in
-      follow-fills h h g n w free (ad .marks-same) le et (omega arith) (omega arith) (omega arith)
+      follow-fills h h g n w free (ad .marks-same) le (omega arith) (omega arith) (omega arith)
       (λ x. record {
         low-l = omega arith;
         l-top = omega arith;

@@ -1,8 +1,8 @@
 // 01 section 5: bytes that arrive where there are holes. What lies beyond the lowest missing position has marks, but for the last stretch.
 ghost use Prim.Native.Nat.{_+_, _≤_, _<_};
 ghost use lib.ListN.{length};
-ghost use Rattle.finding.specs.Finding.{Unmarked};
 ghost use Rattle.receiving.specs.Calls.{Lent, New, Fills};
+ghost use Rattle.holes.specs.Holes.{Fresh};
 use receiving::Scalars;
 
 // Over positions of which some have arrived: the last stretch gets its marks, and is empty after.
@@ -49,8 +49,8 @@ pub fn leap(ring: &mut [u8], marks: &mut [u8], s: Scalars, p: u64, src: &[u8]) -
 pub fn follow(ring: &mut [u8], marks: &mut [u8], s: Scalars, p: u64, src: &[u8]) -> Scalars
     requires { ⌜ Lent s (now ring) (now marks) ⌝ }
     requires { ⌜ New s p (length (now src)) ⌝ }
-    requires { ⌜ (p ≤ s .low) × (p + length (now src) ≤ s .tail) ⌝ }
-    requires { ⌜ Unmarked (now marks) (s .low) (p + length (now src)) 0 ⌝ }
+    requires { ⌜ p ≤ s .low ⌝ }
+    requires { ⌜ Fresh (now marks) s (p + length (now src)) ⌝ }
     ensures { λ r. ⌜ Fills (now (ring .entry)) (now (marks .entry)) s p (now (src .entry)) (now (ring .exit)) (now (marks .exit)) r ⌝ }
 {
     let e = p + src.len() as u64;

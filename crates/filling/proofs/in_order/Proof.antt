@@ -1,7 +1,5 @@
 -- `filling::in_order` meets its contract. Assumes nothing.
-use mathlib.Core.Path.{_≡_}
-use native.Mathlib.Omega.{arith}
-use Rattle.filling.proofs.FillLaws.{fast-fills, unmarked-zero}
+use Rattle.filling.proofs.FillLaws.{fast-fills}
 use borrow.Author.Needs.{needs}
 use Rattle.filling.proofs.in_order.Statement.{statement}
 use Rattle.filling.proofs.in_order.Tie as tie
@@ -18,8 +16,11 @@ same-length c = search needs
 returns : tie.Need-returns
 returns c = search (needs, fast-fills)
 
-slow-requires : tie.Need-slow-requires
-slow-requires c κs = search needs
+fresh-requires : tie.Need-fresh-requires
+fresh-requires c κs = search needs
+
+follow-requires : tie.Need-follow-requires
+follow-requires c κs = (search needs, (search needs, (search needs, c .before .before .before .fresh .ensures (search needs))))
 
 same-length-2 : tie.Need-same-length-2
 same-length-2 c = search needs
@@ -30,11 +31,8 @@ same-length-3 c = search needs
 returns-2 : tie.Need-returns-2
 returns-2 c = search needs
 
-any-requires : tie.Need-any-requires
-any-requires c κs = search needs
-
-slow-requires-2 : tie.Need-slow-requires-2
-slow-requires-2 c κs = search needs
+slow-requires : tie.Need-slow-requires
+slow-requires c κs = search needs
 
 same-length-4 : tie.Need-same-length-4
 same-length-4 c = search needs
@@ -45,21 +43,6 @@ same-length-5 c = search needs
 returns-3 : tie.Need-returns-3
 returns-3 c = search needs
 
-follow-requires : tie.Need-follow-requires
-follow-requires c κs =
-    let m = c .before .before .before .any in
-    let z : m .result ≡ 0 = omega arith in
-    (search needs, (search needs, (search needs, unmarked-zero (m .ensures) z)))
-
-same-length-6 : tie.Need-same-length-6
-same-length-6 c = search needs
-
-same-length-7 : tie.Need-same-length-7
-same-length-7 c = search needs
-
-returns-4 : tie.Need-returns-4
-returns-4 c = search needs
-
 pub in-order-spec : {M : Type 1} → statement M
 in-order-spec =
     tie.close
@@ -68,16 +51,12 @@ in-order-spec =
     write-requires
     same-length
     returns
-    slow-requires
+    fresh-requires
+    follow-requires
     same-length-2
     same-length-3
     returns-2
-    any-requires
-    slow-requires-2
+    slow-requires
     same-length-4
     same-length-5
-    returns-3
-    follow-requires
-    same-length-6
-    same-length-7
-    returns-4)
+    returns-3)
