@@ -1,4 +1,5 @@
 // Datagrams of a script: made from the fields that a line names, and found in an output.
+ghost use mathlib.Core.Path.{_≡_};
 ghost use Prim.Native.Nat.{_+_, _≤_};
 ghost use lib.ListN.{length};
 
@@ -25,6 +26,20 @@ pub fn made(line: &[u8], d: &mut [u8]) -> usize
     super::size(line, super::CUT, 32 + n, d.len())
 }
 
+// What a datagram is made in: its payload is the byte after `of`.
+pub fn blank(line: &[u8]) -> [u8; 2048]
+    ensures { λ r. ⌜ 2048 ≡ length r ⌝ }
+{
+    [super::letter(line); 2048]
+}
+
+// The verdict on the form of a line's datagram.
+pub fn form(line: &[u8]) -> u64 {
+    let mut d = blank(line);
+    let n = made(line, &mut d);
+    form::form(&d[0..n])
+}
+
 // The size of the datagram at `at`, with its payload as far as out has it.
 pub fn size_at(out: &[u8], at: usize) -> usize
     requires { ⌜ at + 32 ≤ length (now out) ⌝ }
@@ -32,4 +47,15 @@ pub fn size_at(out: &[u8], at: usize) -> usize
 {
     let h = wire::fields(&out[at..]);
     32 + super::least(h.length as usize, out.len() - at - 32)
+}
+
+// How many datagrams an output has.
+pub fn count(out: &[u8]) -> u64 {
+    let mut at: usize = 0;
+    let mut k: u64 = 0;
+    while 32 <= out.len() - at {
+        at += size_at(out, at);
+        k += 1;
+    }
+    k
 }

@@ -1,8 +1,11 @@
 // The script of `vectors`: words and numbers of a line. A word is known by its letters, as digits to the base 256.
+ghost use mathlib.Core.Path.{_≡_};
 ghost use Prim.Native.Nat.{_≤_, _<_};
 ghost use lib.ListN.{length};
 
 pub mod datagram;
+pub mod numbers;
+pub mod shown;
 
 // For an end.
 pub const NEAR: u64 = 0x6e656172;
@@ -110,6 +113,36 @@ pub fn next(text: &[u8], at: usize, byte: u8) -> usize
     i
 }
 
+// The word after the first space, or 0.
+pub fn second(line: &[u8]) -> u64 {
+    if line.len() == 0 {
+        return 0;
+    }
+    word(line, next(line, 0, b' '))
+}
+
+// The size of a line without its newline.
+pub fn bare(line: &[u8]) -> usize
+    ensures { λ r. ⌜ r ≤ length (now (line .entry)) ⌝ }
+{
+    let n = line.len();
+    if n == 0 {
+        return 0;
+    }
+    if line[n - 1] == b'\n' {
+        return n - 1;
+    }
+    n
+}
+
+// The first word; of an empty line that of a comment.
+pub fn first(line: &[u8]) -> u64 {
+    if bare(line) == 0 {
+        return COMMENT;
+    }
+    word(line, 0)
+}
+
 // The place after the word w, or line's end.
 pub fn after(line: &[u8], w: u64) -> usize
     ensures { λ r. ⌜ r ≤ length (now (line .entry)) ⌝ }
@@ -169,4 +202,11 @@ pub fn letter(line: &[u8]) -> u8 {
         return line[at];
     }
     0
+}
+
+// As many of a byte as `give` can name: a segment's worth more than a buffer has.
+pub fn many(byte: u8) -> [u8; 66560]
+    ensures { λ r. ⌜ 66560 ≡ length r ⌝ }
+{
+    [byte; 66560]
 }

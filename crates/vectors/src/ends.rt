@@ -1,9 +1,17 @@
 // Lines for one end: the calls of 01 section 1 on its buffers, and what they answer.
 use super::datagram;
 use super::show;
+use ring::CAPACITY;
+use table::TABLE_WORDS;
 
 // open epoch E R I, with a table of `words W`.
-fn open(line: &[u8], table: &mut [u64], outgoing: &[u8], incoming: &[u8], marks: &mut [u8]) {
+fn open(
+    line: &[u8],
+    table: &mut [u64],
+    outgoing: &[u8; CAPACITY],
+    incoming: &[u8; CAPACITY],
+    marks: &mut [u8; CAPACITY],
+) {
     let epoch = script::field(line, script::EPOCH, 7);
     let interval = script::field(line, script::R, 0);
     let n = script::size(line, script::WORDS, table.len(), table.len());
@@ -18,14 +26,14 @@ fn open(line: &[u8], table: &mut [u64], outgoing: &[u8], incoming: &[u8], marks:
 }
 
 // give N of a byte.
-fn fill(line: &[u8], table: &mut [u64], outgoing: &mut [u8]) {
-    let given = [script::letter(line); 66560];
+fn fill(line: &[u8], table: &mut [u64; TABLE_WORDS], outgoing: &mut [u8; CAPACITY]) {
+    let given = script::many(script::letter(line));
     let n = script::size(line, script::GIVE, 0, given.len());
     show::answer(endpoint::sluice_give(table, outgoing, &given[0..n]));
 }
 
 // give line: what is left of the line, with its newline.
-fn give(line: &[u8], table: &mut [u64], outgoing: &mut [u8]) {
+fn give(line: &[u8], table: &mut [u64; TABLE_WORDS], outgoing: &mut [u8; CAPACITY]) {
     let at = script::after(line, script::LINE);
     if at < line.len() {
         show::answer(endpoint::sluice_give(table, outgoing, &line[at..]));
@@ -35,61 +43,52 @@ fn give(line: &[u8], table: &mut [u64], outgoing: &mut [u8]) {
 }
 
 // tick, into `room B` bytes of out. Answers how many bytes were sent.
-fn tick(line: &[u8], table: &mut [u64], outgoing: &[u8], out: &mut [u8]) -> usize {
+fn tick(
+    line: &[u8],
+    table: &mut [u64; TABLE_WORDS],
+    outgoing: &[u8; CAPACITY],
+    out: &mut [u8],
+) -> usize {
     let room = script::size(line, script::ROOM, out.len(), out.len());
     let r = endpoint::sluice_tick(table, outgoing, &mut out[0..room]);
-    show::answer(r);
-    let n = io::count(r as isize, out);
-    show::datagram::all(&out[..n], true);
-    n
+    show::datagram::sent(r, out)
 }
 
-// One of many ticks: how many datagrams it sends.
-fn counted(table: &mut [u64], outgoing: &[u8], out: &mut [u8]) -> usize {
-    let r = endpoint::sluice_tick(table, outgoing, out);
-    let n = io::count(r as isize, out);
-    show::spaced(show::datagram::all(&out[..n], false));
-    n
-}
-
-// ticks N.
-fn ticks(line: &[u8], table: &mut [u64], outgoing: &[u8], out: &mut [u8]) -> usize {
+// ticks N: how many datagrams each sends.
+fn ticks(
+    line: &[u8],
+    table: &mut [u64; TABLE_WORDS],
+    outgoing: &[u8; CAPACITY],
+    out: &mut [u8; 33792],
+) -> usize {
     let n = script::size(line, script::TICKS, 0, 1000);
     let mut sent: usize = 0;
     let mut i: usize = 0;
     while i < n {
-        sent = counted(table, outgoing, out);
+        let r = endpoint::sluice_tick(table, outgoing, out);
+        sent = show::datagram::counted(r, out);
         i += 1;
     }
     sent
 }
 
-// take, as many bytes as room has.
-fn taken(table: &mut [u64], incoming: &[u8], room: &mut [u8]) {
-    let mut ended: u8 = 0;
-    let r = endpoint::sluice_take(table, incoming, room, &mut ended);
-    if r < 0 {
-        show::answer(r);
-        return;
-    }
-    let n = io::count(r as isize, room);
-    show::taken(&room[..n], ended);
-}
-
 // take N.
-fn take(line: &[u8], table: &mut [u64], incoming: &[u8]) {
-    let mut room = [0u8; 65536];
+fn take(line: &[u8], table: &mut [u64; TABLE_WORDS], incoming: &[u8; CAPACITY]) {
+    let mut space = io::large_buffer();
+    let room: &mut [u8] = &mut space;
     let n = script::size(line, script::TAKE, 0, room.len());
-    taken(table, incoming, &mut room[0..n]);
+    let mut ended: u8 = 0;
+    let r = endpoint::sluice_take(table, incoming, &mut room[0..n], &mut ended);
+    show::taken(r, room, ended);
 }
 
 // Lines for the sending side.
 fn sends(
     w: u64,
     line: &[u8],
-    table: &mut [u64],
-    outgoing: &mut [u8],
-    out: &mut [u8],
+    table: &mut [u64; TABLE_WORDS],
+    outgoing: &mut [u8; CAPACITY],
+    out: &mut [u8; 33792],
     sent: usize,
 ) -> usize {
     if w == script::TICKS {
@@ -106,21 +105,21 @@ fn sends(
         show::answer(endpoint::sluice_finish(table));
         return sent;
     }
-    show::what();
+    show::text(b" what?");
     sent
 }
 
 // Any line for an end. sent is how many bytes of out the last tick has sent, and so is the answer.
 pub fn line(
     line: &[u8],
-    table: &mut [u64],
-    outgoing: &mut [u8],
-    incoming: &mut [u8],
-    marks: &mut [u8],
-    out: &mut [u8],
+    table: &mut [u64; TABLE_WORDS],
+    outgoing: &mut [u8; CAPACITY],
+    incoming: &mut [u8; CAPACITY],
+    marks: &mut [u8; CAPACITY],
+    out: &mut [u8; 33792],
     sent: usize,
 ) -> usize {
-    let w = script::word(line, 0);
+    let w = script::second(line);
     if w == script::HEARS {
         datagram::hear_all(out, sent, table, incoming, marks);
         return sent;

@@ -16,21 +16,30 @@ fn one(d: &[u8])
         super::line(&d[32..n]);
         return;
     }
-    super::bytes(n - 32);
+    super::number(b"\n  ", (n - 32) as u64);
+    super::text(b" bytes");
 }
 
-// Every datagram of out, written out; or only counted.
-pub fn all(out: &[u8], shown: bool) -> u64 {
-    let n = out.len();
+fn all(out: &[u8]) {
     let mut at: usize = 0;
-    let mut k: u64 = 0;
-    while 32 <= n - at {
+    while 32 <= out.len() - at {
         let m = script::datagram::size_at(out, at);
-        if shown {
-            one(&out[at..at + m]);
-        }
+        one(&out[at..at + m]);
         at += m;
-        k += 1;
     }
-    k
+}
+
+// What tick answered, and every datagram of out that it sent. Answers how many bytes they are.
+pub fn sent(r: i64, out: &[u8]) -> usize {
+    super::answer(r);
+    let n = io::count(r as isize, out);
+    all(&out[..n]);
+    n
+}
+
+// How many datagrams of out a tick sent. Answers how many bytes they are.
+pub fn counted(r: i64, out: &[u8]) -> usize {
+    let n = io::count(r as isize, out);
+    super::number(b" ", script::datagram::count(&out[..n]));
+    n
 }

@@ -1,16 +1,15 @@
 -- `vectors::datagram::hear_all` meets its contract. Assumes nothing.
 use borrow.Author.Needs.{needs}
-use mathlib.Core.Path.{_≡_}
 use Prim.Native.Nat.{_-_, _≤_}
 use lib.ListN.{length}
 use Rattle.vectors.proofs.datagram.hear_all.Statement.{statement}
 use Rattle.vectors.proofs.datagram.hear_all.Tie as tie
 
 abbrev Inv-loop : tie.InvT-loop
-Inv-loop out sent table₀ incoming₀ marks₀ n at₀ table incoming marks at = (n ≤ length out) × ((at ≤ n) × ((length table ≡ length table₀) × ((length incoming ≡ length incoming₀) × (length marks ≡ length marks₀))))
+Inv-loop out sent table₀ incoming₀ marks₀ n at₀ table incoming marks at = (n ≤ length out) × (at ≤ length out)
 
 abbrev μ-loop : tie.MeasureT-loop
-μ-loop out sent table₀ incoming₀ marks₀ n at₀ table incoming marks at = n - at
+μ-loop out sent table₀ incoming₀ marks₀ n at₀ table incoming marks at = length out - at
 
 pub hear-all-spec : {M : Type 1} → statement M
 hear-all-spec =
@@ -18,6 +17,4 @@ hear-all-spec =
     (tie.spec
     Inv-loop μ-loop (λ c κs. search needs) (λ c. search needs) (λ c. search needs) (λ c κs. search needs)
     (λ c. search needs) (λ c. search needs) (λ c. search needs) (λ c. search needs) (λ c κs. search needs)
-    (λ c κs. search needs) (λ c. search needs) (λ c. search needs) (λ c. search needs) (λ c. search needs)
-    (λ c. search needs) (λ c. search needs) (λ c. search needs) (λ c. search needs) (λ c. search needs)
-    (λ c. search needs) (λ c. search needs) (λ c. search needs))
+    (λ c κs. search needs) (λ c. search needs) (λ c. search needs) (λ c. search needs) (λ c. search needs))

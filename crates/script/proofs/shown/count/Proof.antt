@@ -1,18 +1,17 @@
--- `vectors::show::same` meets its contract. Assumes nothing.
+-- `script::shown::count` meets its contract. Assumes nothing.
 use borrow.Author.Needs.{needs}
 use Prim.Native.Nat.{_-_, _≤_}
-use lib.ListN.{length}
-use Rattle.vectors.proofs.show.same.Statement.{statement}
-use Rattle.vectors.proofs.show.same.Tie as tie
+use Rattle.script.proofs.shown.count.Statement.{statement}
+use Rattle.script.proofs.shown.count.Tie as tie
 
 abbrev Inv-loop : tie.InvT-loop
-Inv-loop d b i₀ i = i ≤ length d
+Inv-loop r n₀ n = n ≤ 65536
 
 abbrev μ-loop : tie.MeasureT-loop
-μ-loop d b i₀ i = length d - i
+μ-loop r n₀ n = 65536 - n
 
-pub same-spec : {M : Type 1} → statement M
-same-spec =
+pub count-spec : {M : Type 1} → statement M
+count-spec =
     tie.close
     (tie.spec
     Inv-loop μ-loop (λ c. search needs) (λ c. search needs) (λ c. search needs) (λ c. search needs) (λ c. search needs)

@@ -1,8 +1,8 @@
--- `vectors::alone::offer` meets its contract. Assumes nothing.
+-- `script::numbers::offer` meets its contract. Assumes nothing.
 use borrow.Author.Needs.{needs}
 use Rattle.window.specs.MarksLaws.{new-near, new-some}
-use Rattle.vectors.proofs.alone.offer.Statement.{statement}
-use Rattle.vectors.proofs.alone.offer.Tie as tie
+use Rattle.script.proofs.numbers.offer.Statement.{statement}
+use Rattle.script.proofs.numbers.offer.Tie as tie
 
 accept-requires : tie.Need-accept-requires
 accept-requires c κs = (search needs, (search (needs, new-some), search (needs, new-near)))
