@@ -33,7 +33,7 @@ use wire::Header;
 const DATAGRAMS: u64 = 32;
 
 // 32 datagrams of 1,056 bytes.
-const OUTPUT_LEAST: usize = 33792;
+pub const OUTPUT_LEAST: usize = 33792;
 
 // Refusal 13, or 0.
 pub fn output_row(n: usize) -> u64

@@ -3,6 +3,7 @@ use super::datagram;
 use super::show;
 use ring::CAPACITY;
 use table::TABLE_WORDS;
+use ticking::OUTPUT_LEAST;
 
 // open epoch E R I, with a table of `words W`.
 fn open(
@@ -59,7 +60,7 @@ fn ticks(
     line: &[u8],
     table: &mut [u64; TABLE_WORDS],
     outgoing: &[u8; CAPACITY],
-    out: &mut [u8; 33792],
+    out: &mut [u8; OUTPUT_LEAST],
 ) -> usize {
     let n = script::size(line, script::TICKS, 0, 1000);
     let mut sent: usize = 0;
@@ -88,7 +89,7 @@ fn sends(
     line: &[u8],
     table: &mut [u64; TABLE_WORDS],
     outgoing: &mut [u8; CAPACITY],
-    out: &mut [u8; 33792],
+    out: &mut [u8; OUTPUT_LEAST],
     sent: usize,
 ) -> usize {
     if w == script::TICKS {
@@ -116,7 +117,7 @@ pub fn line(
     outgoing: &mut [u8; CAPACITY],
     incoming: &mut [u8; CAPACITY],
     marks: &mut [u8; CAPACITY],
-    out: &mut [u8; 33792],
+    out: &mut [u8; OUTPUT_LEAST],
     sent: usize,
 ) -> usize {
     let w = script::second(line);

@@ -6,6 +6,7 @@ use super::ends;
 use super::show;
 use ring::CAPACITY;
 use table::TABLE_WORDS;
+use ticking::OUTPUT_LEAST;
 
 // Echoes a line, and answers it where it is for no end. Answers its first word.
 fn echo(line: &[u8]) -> u64
@@ -35,7 +36,7 @@ fn play(
     far_outgoing: &mut [u8; CAPACITY],
     far_incoming: &mut [u8; CAPACITY],
     far_marks: &mut [u8; CAPACITY],
-    out: &mut [u8; 33792],
+    out: &mut [u8; OUTPUT_LEAST],
 ) {
     let mut sent: usize = 0;
     let mut at: usize = 0;
@@ -79,7 +80,7 @@ pub fn from_zeros(text: &[u8]) {
     let mut far_outgoing = [0u8; CAPACITY];
     let mut far_incoming = [0u8; CAPACITY];
     let mut far_marks = [0u8; CAPACITY];
-    let mut out = [0u8; 33792];
+    let mut out = [0u8; OUTPUT_LEAST];
     play(
         text,
         &mut near_table,
