@@ -38,6 +38,16 @@ pub struct Pair {
     pub rust: Samples,
 }
 
+impl Pair {
+    /// The median of what each round's two figures are to each other: where all is slow for a while, both are.
+    pub fn ratio(&self) -> f64 {
+        let rounds = self.rattle.0.iter().zip(&self.rust.0);
+        let mut ratios: Vec<f64> = rounds.map(|(rattle, rust)| rattle.as_secs_f64() / rust.as_secs_f64()).collect();
+        ratios.sort_by(f64::total_cmp);
+        ratios[ratios.len() / 2]
+    }
+}
+
 /// What transfers took: the whole, each part, and the floor.
 #[derive(Default)]
 pub struct Whole {
@@ -86,10 +96,14 @@ impl Buffers {
         Ok(parts.0)
     }
 
-    /// Whole transfers on both machines; an error where they differ in more than time.
+    /// Whole transfers on both machines, each first in every second round; an error where they differ in more than time.
     fn round(&mut self, whole: &mut Pair) -> Result<Sent, String> {
-        let (rattle, sent) = self.whole::<Rattle>()?;
-        let (rust, same) = self.whole::<Rust>()?;
+        let ((rattle, sent), (rust, same)) = if whole.rust.0.len() % 2 == 0 {
+            (self.whole::<Rattle>()?, self.whole::<Rust>()?)
+        } else {
+            let rust = self.whole::<Rust>()?;
+            (self.whole::<Rattle>()?, rust)
+        };
         whole.rattle.0.push(rattle);
         whole.rust.0.push(rust);
         if sent == same { Ok(sent) } else { Err(format!("rattle sent {sent:?}, rust {same:?}")) }

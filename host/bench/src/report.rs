@@ -15,7 +15,10 @@ pub fn setup(options: &Options, whole: &Whole) {
     println!("{} bytes in segments of {PAYLOAD} between two ends in one process, R = {INTERVAL}", options.bytes);
     println!("every {LOSES}th datagram lost, counted over both directions");
     println!("{} datagrams, {} ticks of each end", whole.sent.datagrams, whole.sent.ticks);
-    println!("{} rounds of each machine in turn: the median, and the fastest in brackets", options.rounds);
+    println!(
+        "{} rounds of each machine in turn: the median, the fastest in brackets, and the median of the rounds' ratios",
+        options.rounds
+    );
     println!("x86-64 code, {machine}");
 }
 
@@ -52,7 +55,7 @@ pub fn growth(sizes: &[(usize, Whole)]) {
 /// The last line.
 pub fn ratio(all: &Whole) {
     println!();
-    println!("ratio: {:.2} (rattle / rust)", quotient(&all.whole));
+    println!("ratio: {:.2} (rattle / rust)", all.whole.ratio());
 }
 
 fn heading(what: &str) {
@@ -61,16 +64,12 @@ fn heading(what: &str) {
 }
 
 fn line(name: &str, pair: &Pair, unit: impl Fn(Duration) -> f64) {
-    println!("{name:<22} {:>20} {:>20} {:>7.2}", both(&pair.rattle, &unit), both(&pair.rust, &unit), quotient(pair));
+    println!("{name:<22} {:>20} {:>20} {:>7.2}", both(&pair.rattle, &unit), both(&pair.rust, &unit), pair.ratio());
 }
 
 /// The median, and the fastest in brackets.
 fn both(samples: &Samples, unit: &impl Fn(Duration) -> f64) -> String {
     format!("{:.2} ({:.2})", unit(samples.median()), unit(samples.fastest()))
-}
-
-fn quotient(pair: &Pair) -> f64 {
-    pair.rattle.median().as_secs_f64() / pair.rust.median().as_secs_f64()
 }
 
 fn millis(took: Duration) -> f64 {
