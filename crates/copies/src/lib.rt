@@ -1,4 +1,6 @@
 // Memory copied, filled, and searched in blocks.
+#![tactic(auto)]
+
 ghost use Rattle.std.specs.Prelude.{◌≡◌, ℕ, ◌+◌, ◌≤◌, ◌<◌, length, get_or, replicate};
 ghost use Rattle.copies.specs.Search.{copied, searched, Other};
 

@@ -1,4 +1,6 @@
 // An end on lent buffers: the six calls of 01 section 1, for C and Rust.
+#![tactic(auto)]
+
 mod answer;
 mod opening;
 

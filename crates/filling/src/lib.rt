@@ -1,4 +1,6 @@
 // 01 section 5: bytes that arrive are kept in a ring, with marks for what lies beyond the lowest missing position and before the last stretch.
+#![tactic(auto)]
+
 ghost use Rattle.std.specs.Prelude.{◌≡◌, true, ◌+◌, ◌≤◌, ◌<◌, length};
 ghost use Rattle.ring.specs.Ring.{capacity};
 ghost use Rattle.receiving.specs.Calls.{Lent, Room, New, Fills, Hears};

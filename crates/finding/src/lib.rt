@@ -1,4 +1,6 @@
 // 01 section 5: marks are searched: single ones up to a whole byte, whole bytes, and single ones after them.
+#![tactic(auto)]
+
 ghost use Rattle.std.specs.Prelude.{◌≡◌, ◌+◌, ◌≤◌, ◌<◌, length};
 ghost use Rattle.ring.specs.Ring.{capacity};
 ghost use Rattle.marks.specs.Stretches.{Whole, Straight};

@@ -1,4 +1,6 @@
 // A datagram's form, 01 section 2: refusals 1 and 2.
+#![tactic(auto)]
+
 ghost use Rattle.std.specs.Prelude.{◌≡◌, ◌<◌};
 ghost use Rattle.wire.specs.Reading.{data_row, plain_row, rows_of, form_of};
 

@@ -1,4 +1,6 @@
 // A datagram: judged read-only, and then heard.
+#![tactic(auto)]
+
 ghost use Rattle.std.specs.Prelude.{◌≡◌, ℕ, ◌+◌, ◌≤◌, ◌<◌, length, drop};
 ghost use Rattle.ring.specs.Ring.{capacity};
 ghost use Rattle.wire.specs.Datagram.{head_size};

@@ -1,4 +1,6 @@
 // 01 section 5: bytes that arrive where there are holes. What lies beyond the lowest missing position has marks, but for the last stretch.
+#![tactic(auto)]
+
 ghost use Rattle.std.specs.Prelude.{◌+◌, ◌≤◌, ◌<◌, length};
 ghost use Rattle.receiving.specs.Calls.{Lent, New, Fills};
 ghost use Rattle.holes.specs.Holes.{Fresh};

@@ -49,7 +49,7 @@ pub says_end : (H K : List ℕ) → Says (H ++ K) (length H) K
 says_end [] K = says_self K
 says_end (x ∷ H) K = says_later (says_end H K)
 
-says_earlier : {H : List ℕ} {p x : ℕ} {bs : List ℕ} → Says (x ∷ H) (suc p) bs → Says H p bs
+says_earlier : {H : List ℕ} {x p : ℕ} {bs : List ℕ} → Says (x ∷ H) (suc p) bs → Says H p bs
 says_earlier none = none
 says_earlier (more (there a) h) = more a (says_earlier h)
 

@@ -1,4 +1,6 @@
 // 01 section 5: a mark for each position beyond the lowest missing one, a bit each: eight positions are one byte.
+#![tactic(auto)]
+
 ghost use Rattle.std.specs.Prelude.{◌≡◌, ◌+◌, ◌/◌, ◌%◌, ◌≤◌, ◌<◌, length};
 ghost use Rattle.ring.specs.Ring.{capacity};
 ghost use Rattle.marks.specs.Marks.{mark};

@@ -1,4 +1,6 @@
 // The lower and the higher of two numbers, and a difference that stops at 0.
+#![tactic(auto)]
+
 ghost use Rattle.std.specs.Prelude.{◌≡◌, ◌-◌, min, max};
 
 pub fn least(a: u64, b: u64) -> u64

@@ -1,4 +1,6 @@
 // 01 sections 2 and 6: one DATA of a segment, or one PROBE, written at its place in the output.
+#![tactic(auto)]
+
 ghost use Rattle.std.specs.Prelude.{◌≡◌, ◌++◌, ◌+◌, ◌≤◌, length};
 ghost use Rattle.ring.specs.Ring.{capacity, span};
 ghost use Rattle.wire.specs.Datagram.{head_size, payload_most, PROBE, head_of, encode};

@@ -1,4 +1,6 @@
 // 01 section 5: what the scalars of a receiving side tell: refusals 8 and 9, the ACK's position and credit, the END.
+#![tactic(auto)]
+
 ghost use Rattle.std.specs.Prelude.{◌≡◌, ◌≤◌};
 ghost use Rattle.wire.specs.Datagram.{ceiling};
 ghost use Rattle.receiving.specs.Receiving.{end_of, end_at, beyond_of, misplaced_of, Ranged, plausible_of};
@@ -8,7 +10,7 @@ use ring::CAPACITY;
 use wire::CEILING;
 
 // Bytes below taken are with the host. low is the lowest missing position, high one more than the highest that has arrived, or taken; all from tail up to high have arrived. end is the END's position where known is not 0.
-#[derive(Drop)]
+#[derive(Clone, Copy)]
 pub struct Scalars {
     pub taken: u64,
     pub low: u64,

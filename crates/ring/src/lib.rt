@@ -1,4 +1,6 @@
 // 01 section 1: bytes of a stream at their positions in a ring.
+#![tactic(auto)]
+
 ghost use Rattle.std.specs.Prelude.{◌≡◌, ◌-◌, ◌%◌, ◌≤◌, min, length};
 ghost use Rattle.ring.specs.Ring.{capacity, Put, Got};
 

@@ -1,4 +1,6 @@
 // The script of `vectors`: words and numbers of a line. A word is known by its letters, as digits to the base 256.
+#![tactic(auto)]
+
 ghost use Rattle.std.specs.Prelude.{◌≡◌, ◌≤◌, ◌<◌, length};
 
 pub mod datagram;

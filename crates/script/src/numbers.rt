@@ -1,7 +1,7 @@
 // Numbers offered to the window of 01 section 4.
 ghost use Rattle.std.specs.Prelude.{◌<◌};
 
-#[derive(Drop)]
+#[derive(Clone, Copy)]
 pub struct Offered {
     pub high: u64,
     pub verdict: u64,

@@ -1,4 +1,6 @@
 // 01 section 6, steps 2 and 3: a segment's place, whether it is due, and where the next one ends.
+#![tactic(auto)]
+
 ghost use Rattle.std.specs.Prelude.{◌≡◌, ◌+◌, ◌-◌, ◌%◌, ◌≤◌, ◌<◌, min};
 ghost use Rattle.wire.specs.Datagram.{payload_most, ceiling};
 ghost use Rattle.segments.specs.Segments.{segments_most};
@@ -10,7 +12,7 @@ use wire::PAYLOAD_MOST;
 pub const SEGMENTS: u64 = 64;
 
 // What a tick has to go by: the clock, R, and how many datagrams may leave.
-#[derive(Drop)]
+#[derive(Clone, Copy)]
 pub struct Tick {
     pub now: u64,
     pub every: u64,
@@ -18,14 +20,14 @@ pub struct Tick {
 }
 
 // What every datagram has besides: the epoch, and the number that was used last.
-#[derive(Drop)]
+#[derive(Clone, Copy)]
 pub struct Stamp {
     pub epoch: u64,
     pub number: u64,
 }
 
 // How far the stream may be cut.
-#[derive(Drop)]
+#[derive(Clone, Copy)]
 pub struct Line {
     pub given: u64,
     pub closed: u64,
@@ -33,7 +35,7 @@ pub struct Line {
 }
 
 // The segments: where the oldest starts, where the next will, the oldest one's place in the tables, and how many are kept.
-#[derive(Drop)]
+#[derive(Clone, Copy)]
 pub struct Row {
     pub acked: u64,
     pub next: u64,
@@ -42,14 +44,14 @@ pub struct Row {
 }
 
 // Bytes and datagrams written.
-#[derive(Drop)]
+#[derive(Clone, Copy)]
 pub struct Wrote {
     pub bytes: usize,
     pub count: u64,
 }
 
 // Bytes and datagrams written; the next position, and the segments kept.
-#[derive(Drop)]
+#[derive(Clone, Copy)]
 pub struct Added {
     pub bytes: usize,
     pub count: u64,

@@ -1,4 +1,6 @@
 // The sending side but its datagrams, 01 section 6, with give and finish of section 1.
+#![tactic(auto)]
+
 ghost use Rattle.std.specs.Prelude.{◌≡◌, ◌+◌, ◌*◌, ◌≤◌, length};
 ghost use Rattle.ring.specs.Ring.{capacity};
 ghost use Rattle.segments.specs.Segments.{segments_most};
@@ -14,7 +16,7 @@ pub use segments::{Line, Row, Stamp, Tick};
 use wire::CEILING;
 
 // What a tick did: bytes and datagrams written; the next position, the segments kept, and one more than the tick of the last PROBE.
-#[derive(Drop)]
+#[derive(Clone, Copy)]
 pub struct Sent {
     pub bytes: usize,
     pub count: u64,
@@ -24,7 +26,7 @@ pub struct Sent {
 }
 
 // The limit, and one more than the tick of the last PROBE since room ran out.
-#[derive(Drop)]
+#[derive(Clone, Copy)]
 pub struct Credit {
     pub limit: u64,
     pub probed: u64,

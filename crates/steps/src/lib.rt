@@ -1,4 +1,6 @@
 // 01 section 6, steps 2, 3 and 4: segments sent again, cut and sent, and a PROBE, as datagrams.
+#![tactic(auto)]
+
 ghost use Rattle.segments.specs.Outcome.{Room, Resends, Cuts, Both};
 ghost use Rattle.sending.specs.Outcome.{Sends};
 

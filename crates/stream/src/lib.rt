@@ -1,4 +1,6 @@
 // The host's side of an end on its table: open, whatever table and marks held; give, finish and take, of an end that is ready.
+#![tactic(auto)]
+
 ghost use Rattle.std.specs.Prelude.{◌≡◌, ℕ, ◌≤◌, length};
 ghost use Rattle.ring.specs.Ring.{capacity};
 ghost use Rattle.table.specs.Layout.{table_words, sections_of};

@@ -1,4 +1,6 @@
 // The table of an end: its sections, loaded into structs and stored; and refusals 10 to 12, which need no more than the table and lengths.
+#![tactic(auto)]
+
 ghost use Rattle.std.specs.Prelude.{◌≡◌, ℕ, ◌+◌, ◌≤◌, ◌<◌, length};
 ghost use Rattle.table.specs.Layout.{common_size, sends_size, receives_size, table_words, sections_of, common_of, common_words, sends_of, sends_words, scalars_of, scalars_words};
 ghost use Rattle.table.specs.Rows.{interval_row, short_row, going_of, opened_of, ready_of};
@@ -24,7 +26,7 @@ pub const TABLE_WORDS: usize = 165;
 const INTERVAL_MOST: u64 = 65535;
 
 // What belongs to neither side: whether the end was opened, R, the clock, the last number used, whether an ACK is due, and the highest number accepted.
-#[derive(Drop)]
+#[derive(Clone, Copy)]
 pub struct Common {
     pub opened: u64,
     pub epoch: u64,
@@ -36,7 +38,7 @@ pub struct Common {
 }
 
 // The sending side's scalars.
-#[derive(Drop)]
+#[derive(Clone, Copy)]
 pub struct Sends {
     pub line: Line,
     pub row: Row,

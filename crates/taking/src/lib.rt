@@ -1,4 +1,6 @@
 // 01 section 5: nothing has arrived yet; and what has is handed up.
+#![tactic(auto)]
+
 ghost use Rattle.std.specs.Prelude.{◌≡◌, length};
 ghost use Rattle.ring.specs.Ring.{capacity};
 ghost use Rattle.receiving.specs.Receiving.{Ranged};

@@ -1,4 +1,6 @@
 // tick: what leaves now, one datagram after the other.
+#![tactic(auto)]
+
 ghost use Rattle.std.specs.Prelude.{◌≡◌, ℕ, ◌+◌, ◌-◌, ◌*◌, ◌≤◌, ◌<◌, min, length};
 ghost use Rattle.ring.specs.Ring.{capacity};
 ghost use Rattle.wire.specs.Datagram.{head_size, ceiling, ACK, encode};
@@ -68,7 +70,7 @@ fn acks(due: u64, allowed: u64) -> u64
 }
 
 // What a tick has to go by.
-#[derive(Drop)]
+#[derive(Clone, Copy)]
 pub struct Plan {
     pub now: u64,
     pub allowed: u64,

@@ -1,4 +1,6 @@
 // Every worked example of the documents, computed: a script of at most 16,384 bytes, the file `stdin`, is played to two ends, near and far. `stdout` was written by hand from the documents.
+#![tactic(auto)]
+
 mod alone;
 mod datagram;
 mod ends;

@@ -1,4 +1,6 @@
 // Numbers, taken at most once: 01 section 4. A window is h, the highest number accepted, and 16 words of marks.
+#![tactic(auto)]
+
 ghost use Rattle.std.specs.Prelude.{◌≡◌, ℕ, ◌+◌, ◌-◌, ◌≤◌, ◌<◌, length};
 ghost use Rattle.window.specs.Window.{width, verdict_of};
 ghost use Rattle.window.specs.Marks.{words, mark, window_of, Put, Accepts};

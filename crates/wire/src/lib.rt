@@ -1,4 +1,6 @@
 // A datagram's header, 01 section 2: its fields, and how they are read.
+#![tactic(auto)]
+
 ghost use Rattle.std.specs.Prelude.{◌≡◌, ◌+◌, ◌≤◌, length};
 ghost use Rattle.wire.specs.Datagram.{head_size};
 ghost use Rattle.wire.specs.Reading.{Got, Fields};
@@ -11,7 +13,7 @@ pub const PAYLOAD_MOST: u64 = 1024;
 pub const CEILING: u64 = 4611686018427387904;
 
 // The fields before the payload.
-#[derive(Drop)]
+#[derive(Clone, Copy)]
 pub struct Header {
     pub kind: u64,
     pub flags: u64,

@@ -1,4 +1,6 @@
 // A datagram's header, 01 section 2, written.
+#![tactic(auto)]
+
 ghost use Rattle.std.specs.Prelude.{◌≡◌, ◌≤◌, length};
 ghost use Rattle.wire.specs.Datagram.{head_size, be, start_of, rest_of, head_of};
 

@@ -1,0 +1,8 @@
+use lib.Bits.{and_mask}
+use Rattle.laws.specs.Bits.{bit}
+use Rattle.window.specs.Marks.{mark}
+use Rattle.window.proofs.marked.Goals as goal
+
+pub returns : goal.returns
+unfolding bit mark
+returns c = and_mask _ 1
