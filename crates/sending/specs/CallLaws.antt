@@ -10,7 +10,7 @@ use Rattle.sending.specs.Giving.{taken_of, give_of, finish_of}
 use Rattle.sending.specs.Acking.{ack_refusal, left_of, acked_of, ack_of}
 use Rattle.sending.specs.Steps.{send_of}
 use Rattle.sending.specs.Buffers.{Chain, Orderly}
-use Rattle.sending.specs.Buffers.Chain.{one}
+use Rattle.sending.specs.Buffers.Chain.{none, one}
 use Rattle.sending.specs.GiveLaws.{room_closed}
 use Rattle.sending.specs.OrderLaws.{dropped}
 
@@ -146,6 +146,7 @@ ack_stays s position credit i = left_stays position s.kept i
 -- every segment ends between acked and the newest one's end
 pub in_chain : {acked given : ℕ} {g : Segment} {gs : List Segment} → Chain acked given gs → In g gs → g.to ≤ start_of acked gs
 unfolding start_of
+in_chain none i = elim i [ ]
 in_chain (one l m c) here = omega arith
 in_chain (one l m c) (there i) = let k = in_chain c i in omega arith
 

@@ -37,6 +37,7 @@ each_map f (each_more {m} p a) = each_more (f m p) (each_map f a)
 
 -- what holds of each holds of one of them
 pub each_in : {P : Message → Type 0} {m : Message} {ms : List Message} → Each P ms → In m ms → P m
+each_in each_none i = elim i [ ]
 each_in (each_more p a) here = p
 each_in (each_more p a) (there i) = each_in a i
 

@@ -74,6 +74,7 @@ Bytes d = (j : ℕ) → get_or d j 0 < 256
 num_first : (d : List ℕ) (at n k : ℕ) → Bytes d → k ≤ n → num d at n / 2 ^ (8 * (n - k)) ≡ num d at k
 unfolding num Bytes
 num_first d at zero zero b h = refl
+num_first d at zero (suc _) b h = elim h [ ]
 num_first d at (suc n) k b h = elim (ℕ_discrete k (suc n)) [
   | yes e ↦ rw (e, sub_self) (div-one (num d at (suc n)))
   | no ne ↦

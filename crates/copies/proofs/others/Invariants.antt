@@ -1,0 +1,11 @@
+use mathlib.Core.Path.{◌≡◌}
+use Prim.Native.Nat.{ℕ, ◌+◌, ◌-◌, ◌≤◌, ◌<◌}
+use lib.ListN.{get_or}
+use Rattle.copies.specs.Search.{searched}
+use Rattle.copies.proofs.others.Given as goal
+
+abbrev pub invariant-loop-j : goal.invariant-loop-j
+invariant-loop-j l = (l.j ≤ searched) × (l.z ≡ 0 → (k : ℕ) → k < l.j → get_or l.m (l.at + k) 0 ≡ l.v)
+
+abbrev pub decreases-loop-j : goal.decreases-loop-j
+decreases-loop-j l = searched - l.j

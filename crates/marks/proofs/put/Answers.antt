@@ -1,0 +1,6 @@
+use borrow.Author.Rules.{rules}
+use Rattle.marks.proofs.Bytes.{put_mark}
+use Rattle.marks.proofs.put.Goals as goal
+
+pub returns : goal.returns
+returns c = search (rules, put_mark)

@@ -1,0 +1,6 @@
+use borrow.Author.Rules.{rules}
+use Rattle.marks.proofs.StretchLaws.{marked_three}
+use Rattle.marks.proofs.put_all.Goals as goal
+
+pub returns : goal.returns
+returns c = search (rules, marked_three)

@@ -1,0 +1,6 @@
+use borrow.Author.Rules.{rules}
+use Rattle.marks.proofs.StretchLaws.{marked_join}
+use Rattle.marks.proofs.put_whole.Goals as goal
+
+pub returns : goal.returns
+returns c = search (rules, marked_join)

@@ -1,0 +1,6 @@
+use borrow.Author.Rules.{rules}
+use Rattle.marks.proofs.Bytes.{read_mark}
+use Rattle.marks.proofs.test.Goals as goal
+
+pub returns : goal.returns
+returns c = search (rules, read_mark)

@@ -1,0 +1,6 @@
+use borrow.Author.Rules.{rules}
+use Rattle.window.specs.MarksLaws.{new_near, new_some}
+use Rattle.script.proofs.numbers.offer.Goals as goal
+
+pub accept-requires : goal.accept-requires
+accept-requires c = (search rules, (search (rules, new_some), search (rules, new_near)))
