@@ -1,0 +1,9 @@
+use Rattle.filling.proofs.FillLaws.{fresh_not, fresh_none}
+use borrow.Author.Rules.{rules}
+use Rattle.filling.proofs.fresh.Goals as goal
+
+pub returns-then-s-e : goal.returns-then-s-e
+returns-then-s-e c = fresh_not
+
+pub returns : goal.returns
+returns c = fresh_none (search rules) c.any.ensures

@@ -1,0 +1,21 @@
+use native.Mathlib.Omega.{arith}
+use Rattle.table.specs.Layout.{sections_of}
+use Rattle.hearing.specs.HearingLaws.{ack_row, ack_within, judged_some, judged_near, ack_done}
+use borrow.Author.Rules.{rules}
+use Rattle.hearing.proofs.ack.Goals as goal
+
+pub ack-r-requires : goal.ack-r-requires
+ack-r-requires c = (search rules, ack_row c.requires.ready c.sends_in-s.ensures)
+
+pub overflow_add-h : goal.overflow_add-h
+overflow_add-h c =
+    omega (arith, c.requires.judged.1, ack_within c.requires.ready c.requires.judged.0 c.requires.kind_value)
+
+pub note-requires : goal.note-requires
+note-requires c =
+    (c.requires.table_words_in_bounds, (judged_some c.requires.judged.0, judged_near c.requires.judged.0))
+
+pub returns : goal.returns
+unfolding sections_of
+returns c =
+    ack_done c.requires.table_words_in_bounds c.common_in-c.ensures c.sends_in-s.ensures c.ack-r.ensures c.grant-g.ensures c.note.ensures c.save_sends.ensures

@@ -1,0 +1,12 @@
+use Rattle.hearing.specs.HearingLaws.{hear_form, hear_judge, form_header}
+use borrow.Author.Rules.{rules}
+use Rattle.hearing.proofs.hear_row.Goals as goal
+
+pub returns-then-wrong-ne0 : goal.returns-then-wrong-ne0
+returns-then-wrong-ne0 c = search (rules, hear_form)
+
+pub fields-requires : goal.fields-requires
+fields-requires c = search (rules, form_header)
+
+pub returns : goal.returns
+returns c = search (rules, hear_judge)

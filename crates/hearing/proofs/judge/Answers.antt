@@ -1,0 +1,15 @@
+use Rattle.hearing.specs.HearingLaws.{judge_epoch, judge_number, judge_place}
+use Rattle.table.specs.Layout.{sections_of}
+use borrow.Author.Rules.{rules}
+use Rattle.hearing.proofs.judge.Goals as goal
+
+pub returns-then-h-c : goal.returns-then-h-c
+returns-then-h-c c = search (rules, judge_epoch)
+
+pub returns-then-v-ne0 : goal.returns-then-v-ne0
+unfolding sections_of
+returns-then-v-ne0 c = search (rules, judge_number)
+
+pub returns : goal.returns
+unfolding sections_of
+returns c = search (rules, judge_place)

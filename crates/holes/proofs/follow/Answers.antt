@@ -1,0 +1,9 @@
+use Rattle.holes.proofs.HoleLaws.{hole_fills, tail_fills}
+use borrow.Author.Rules.{rules}
+use Rattle.holes.proofs.follow.Goals as goal
+
+pub returns-then-l-s : goal.returns-then-l-s
+returns-then-l-s c = search (rules, tail_fills)
+
+pub returns : goal.returns
+returns c = search (rules, hole_fills)

@@ -1,0 +1,7 @@
+use borrow.Author.Rules.{rules}
+use Rattle.receiving.specs.Calls.{ended_by}
+use Rattle.receiving.proofs.ended.Goals as goal
+
+pub returns : goal.returns
+unfolding ended_by
+returns c = search rules

@@ -1,0 +1,21 @@
+use native.Mathlib.Omega.{arith}
+use Rattle.segments.specs.Steps.{due_of}
+use borrow.Author.Tests.{le-leb, lt-leb}
+use Prim.Native.Nat.{◌-◌, ◌≤◌, ◌<◌}
+use Rattle.segments.proofs.due.Goals as goal
+
+pub returns-then-w-minus : goal.returns-then-w-minus
+unfolding due_of
+returns-then-w-minus c =
+    let w = c.args.w in
+    let at = c.args.at in
+    let h : w.every ≤ w.now - at = omega arith in
+    rw (le-leb w.every (w.now - at) h)
+
+pub returns-else-w-minus : goal.returns-else-w-minus
+unfolding due_of
+returns-else-w-minus c =
+    let w = c.args.w in
+    let at = c.args.at in
+    let h : w.now - at < w.every = omega arith in
+    rw (lt-leb w.every (w.now - at) h)

@@ -1,0 +1,9 @@
+use Rattle.sending.proofs.Tests.{ago_never, ago_some}
+use borrow.Author.Rules.{rules}
+use Rattle.sending.proofs.ago.Goals as goal
+
+pub returns-then-probed-eq0 : goal.returns-then-probed-eq0
+returns-then-probed-eq0 c = search (rules, ago_never)
+
+pub returns : goal.returns
+returns c = search (rules, ago_some)

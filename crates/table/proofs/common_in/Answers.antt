@@ -1,0 +1,6 @@
+use Rattle.table.specs.Layout.{sections_of}
+use Rattle.table.proofs.common_in.Goals as goal
+
+pub returns : goal.returns
+unfolding sections_of
+returns c = c.load_common.ensures

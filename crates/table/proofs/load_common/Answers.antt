@@ -1,0 +1,7 @@
+use mathlib.Core.Path.{refl}
+use Rattle.table.specs.Layout.{common_of}
+use Rattle.table.proofs.load_common.Goals as goal
+
+pub returns : goal.returns
+unfolding common_of
+returns c = refl

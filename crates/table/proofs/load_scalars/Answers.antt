@@ -1,0 +1,7 @@
+use mathlib.Core.Path.{refl}
+use Rattle.table.specs.Layout.{scalars_of}
+use Rattle.table.proofs.load_scalars.Goals as goal
+
+pub returns : goal.returns
+unfolding scalars_of
+returns c = refl
