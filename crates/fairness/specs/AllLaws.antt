@@ -83,6 +83,7 @@ chain_none none h = refl
 chain_none (one l m c) h = let u = chain_up c in absurd (omega arith)
 
 pub chain_above : {acked given : ℕ} {g : Segment} {gs : List Segment} → Chain acked given gs → In g gs → acked < g.to
+chain_above none i = elim i [ ]
 chain_above (one l m c) here = let u = chain_up c in omega arith
 chain_above (one l m c) (there i) = chain_above c i
 

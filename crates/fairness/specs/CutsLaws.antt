@@ -31,6 +31,7 @@ pub record Cuts (G W : ℕ) (s : Sending) : Type 0 where
   pub kept : Marks G W s.kept
 
 pub mark_in : {G W : ℕ} {g : Segment} {gs : List Segment} → Marks G W gs → In g gs → Mark G W g.to
+mark_in no_marks i = elim i [ ]
 mark_in (more_marks m k) here = m
 mark_in (more_marks m k) (there i) = mark_in k i
 

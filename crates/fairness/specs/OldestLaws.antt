@@ -30,7 +30,7 @@ pub in_right : {A : Type 0} {x : A} (xs : List A) {ys : List A} → In x ys → 
 in_right [] i = i
 in_right (x ∷ xs) i = there (in_right xs i)
 
-any_leaving : (f : Message → Bool) (t n : ℕ) {ms : List Message} {m : Message} → In m ms → f m ≡ true → any_of f (leaving t n ms) ≡ 1
+any_leaving : (f : Message → Bool) (t n : ℕ) {m : Message} {ms : List Message} → In m ms → f m ≡ true → any_of f (leaving t n ms) ≡ 1
 unfolding any_of leaving
 any_leaving f t n here e = rw e
 any_leaving f t n (there {y} {xs} i) e = if_case (λ (k : ℕ). k ≡ 1) (f y) (λ q. refl) (λ q. any_leaving f t n i e)

@@ -13,7 +13,7 @@ use Rattle.sending.specs.CallLaws.{In, here, there}
 use Rattle.end.specs.End.{End, open_of, hear_answer, sent_of}
 use Rattle.network.specs.World.{Entry, Site, opened, Arrival, handed, stray, Call, gives, finishes, takes, arrives, calls, noted, hear, bytes_of, hand_over, strange, arrive, call, leaving, tick, act}
 use Rattle.network.specs.Rounds.{all_choices, play}
-use Rattle.network.specs.Delivered.{numbers_of, Every, cons}
+use Rattle.network.specs.Delivered.{numbers_of, Every, nil, cons}
 use Rattle.network.specs.Truth.{sink, position, grant, Forth, Back, back, a_data, a_probe, Pair}
 use Rattle.network.specs.FlowLaws.{data_placed, ack_placed}
 use Rattle.end.specs.EndLaws.{Accepts, Hears, hears, Placed, placed_data, placed_ack, placed_probe, answer_number}
@@ -73,11 +73,12 @@ row_at σ d zero = rw (site_start σ d, end_start σ d) no_row
 row_at σ d (suc n) = rw (number_next σ d n, sent_next σ d n, sent_in_lem σ d n) (row_leaving _ (end_at σ d n).number (sent_of (ready_at σ d n).end) (row_at σ d n))
 
 row_below : {n : ℕ} {d : Entry} {ds : List Entry} → Row n ds → In d ds → d.number ≤ n
+row_below no_row i = elim i [ ]
 row_below (one_row e r) here = omega arith
 row_below (one_row e r) (there i) = let k = row_below r i in omega arith
 
 -- a number is one datagram's
-pub row_same : {n : ℕ} {d e : Entry} {ds : List Entry} → Row n ds → In d ds → In e ds → d.number ≡ e.number → d ≡ e
+pub row_same : {d e : Entry} {n : ℕ} {ds : List Entry} → Row n ds → In d ds → In e ds → d.number ≡ e.number → d ≡ e
 row_same r here here q = refl
 row_same (one_row {n} {d} f r) here (there {y} i) q = let k = row_below r i in absurd (omega arith)
 row_same (one_row f r) (there i) here q = let k = row_below r i in absurd (omega arith)
@@ -166,6 +167,7 @@ unfolding hear
 hear_event {x} p d h = hears_event p (hears x.end d) h
 
 every_in : {P : Entry → Type 0} {d : Entry} {ds : List Entry} → Every P ds → In d ds → P d
+every_in nil i = elim i [ ]
 every_in (cons p a) here = p
 every_in (cons p a) (there i) = every_in a i
 

@@ -228,7 +228,7 @@ record Which (s : Site) (epoch : ℕ) (ds : List Entry) (d : List ℕ) : Type 0 
   index : ℕ
   is : hand_over s epoch ds index ≡ hear s d
 
-which : {d : List ℕ} (s : Site) (epoch : ℕ) (ds : List Entry) → In d (all_bytes epoch ds) → Which s epoch ds d
+which : (s : Site) (epoch : ℕ) (ds : List Entry) {d : List ℕ} → In d (all_bytes epoch ds) → Which s epoch ds d
 unfolding hand_over all_bytes
 which s epoch [] i = elim i [ ]
 which s epoch (e ∷ ds) here = record { index = 0; is = refl }
@@ -374,14 +374,14 @@ begin_matches {epoch} (opens {interval = interval} k q) =
     let z = value_zero _ k.answer q in
     (interval, record { sound = k.sound z; end = k.end z; given = refl; finished = refl; taken = refl; reported = refl; sent = refl; accepted = none })
 
-near_reaches : {epoch : ℕ} {x y : Desk} {site : Site} (r s : ℕ) (cs : List Choice) → Reaches (run epoch r s cs).near (run epoch r s cs).far site → Matches epoch x site
+near_reaches : {epoch : ℕ} {x y : Desk} (r s : ℕ) (cs : List Choice) {site : Site} → Reaches (run epoch r s cs).near (run epoch r s cs).far site → Matches epoch x site
     → Matches epoch y (run epoch r s cs).far
     → Follows epoch x y
 unfolding run step
 near_reaches r s cs stays m w = record { r = r; s = s; choices = cs; near_matches = m; far_matches = w }
 near_reaches r s cs (acts a) m w = record { r = r; s = s; choices = near_acts a ∷ cs; near_matches = m; far_matches = w }
 
-far_reaches : {epoch : ℕ} {x y : Desk} {site : Site} (r s : ℕ) (cs : List Choice) → Reaches (run epoch r s cs).far (run epoch r s cs).near site → Matches epoch x (run epoch r s cs).near
+far_reaches : {epoch : ℕ} {x y : Desk} (r s : ℕ) (cs : List Choice) {site : Site} → Reaches (run epoch r s cs).far (run epoch r s cs).near site → Matches epoch x (run epoch r s cs).near
     → Matches epoch y site
     → Follows epoch x y
 unfolding run step

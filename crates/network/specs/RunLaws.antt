@@ -111,6 +111,13 @@ entry_pair {epoch} {x} {y} d e n h v =
     let q = entry_read d e v n h in
     hear_pair (bytes_of epoch d) (λ number m p. let s : d.message ≡ m = cc in rw s at h) v
 
+-- the newest, and the others
+every_head : {P : Entry → Type 0} {d : Entry} {ds : List Entry} → Every P (d ∷ ds) → P d
+every_head (cons p ps) = p
+
+every_tail : {P : Entry → Type 0} {d : Entry} {ds : List Entry} → Every P (d ∷ ds) → Every P ds
+every_tail (cons p ps) = ps
+
 handed_pair : {epoch : ℕ} {x y : Site} (o : ℕ) (ds : List Entry) (i : ℕ) → o ≡ epoch → epoch < 2 ^ 64 → Every (Numbered y.end.number) ds
     → Every (λ d. Forth y.given y.finished y.end.sending.limit y.end.sending.next d.message) ds
     → Every (λ d. Back (position (sink y)) (grant (sink y)) d.message) ds
@@ -118,8 +125,8 @@ handed_pair : {epoch : ℕ} {x y : Site} (o : ℕ) (ds : List Entry) (i : ℕ) �
     → Pair epoch (hand_over x o ds i) y
 unfolding hand_over
 handed_pair o [] i q e n f b v = v
-handed_pair o (d ∷ ds) zero q e (cons n ns) (cons f fs) (cons b bs) v = rw q (entry_pair d e n (record { forth = f; back = b }) v)
-handed_pair o (d ∷ ds) (suc i) q e (cons n ns) (cons f fs) (cons b bs) v = handed_pair o ds i q e ns fs bs v
+handed_pair o (d ∷ ds) zero q e n f b v = rw q (entry_pair d e (every_head n) (record { forth = every_head f; back = every_head b }) v)
+handed_pair o (d ∷ ds) (suc i) q e n f b v = handed_pair o ds i q e (every_tail n) (every_tail f) (every_tail b) v
 
 -- bytes of another epoch
 strange_not : (epoch : ℕ) (D : Decoded) (number : ℕ) (m : Message) → strange epoch D ≡ true → D ≡ read epoch number m → ⊥

@@ -5,7 +5,10 @@ use Rattle.hearing.proofs.data.Goals as goal
 
 pub hear-v-requires : goal.hear-v-requires
 hear-v-requires c =
-    (data_lent (ring_sized c.size-k.ensures) c.args.incoming.now c.args.marks.now c.requires.hearing c.scalars_in-s.ensures, data_room c.requires.hearing c.requires.kind_value c.scalars_in-s.ensures)
+    record {
+      lent = data_lent (ring_sized c.size-k.ensures) c.args.incoming.now c.args.marks.now c.requires.hearing c.scalars_in-s.ensures;
+      room = data_room c.requires.hearing c.requires.kind_value c.scalars_in-s.ensures;
+    }
 
 pub note-requires : goal.note-requires
 note-requires c =
@@ -17,8 +20,8 @@ slice_bounds-save_scalars-end c =
     let g = c.requires.hearing.table_size in
     search rules
 
-pub returns : goal.returns
-returns c = data_done (ring_sized c.size-k.ensures) c.requires.hearing c.scalars_in-s.ensures c.hear-v.ensures c.note.ensures c.save_scalars.ensures
+done : goal.returns
+done c = data_done (ring_sized c.size-k.ensures) c.requires.hearing c.scalars_in-s.ensures c.hear-v.ensures c.note.ensures c.save_scalars.ensures
 
 pub shape_of-t : goal.shape_of-t
 shape_of-t c = (done c).size

@@ -1,0 +1,15 @@
+use native.Mathlib.Omega.{arith}
+use Rattle.table.specs.LayoutLaws.{ring_sized}
+use Rattle.stream.specs.StreamLaws.{given_fits, gave}
+use borrow.Author.Rules.{rules}
+use Rattle.stream.proofs.give.Goals as goal
+
+pub overflow_add-longer : goal.overflow_add-longer
+overflow_add-longer c = omega (arith, given_fits c.requires.table_words_in_bounds.1 c.sends_in-s.ensures c.give-n.ensures)
+
+pub slice_bounds-save_sends-end : goal.slice_bounds-save_sends-end
+slice_bounds-save_sends-end c = let h = c.requires.table_words_in_bounds.0 in search rules
+
+pub returns : goal.returns
+returns c =
+    gave c.args.t.now _ c.sends_in-s.result c.requires.table_words_in_bounds.0 c.sends_in-s.ensures (ring_sized c.size-k.ensures) c.args.outgoing.now c.args.bytes.now _ _ c.requires.capacity_in_bounds c.give-n.ensures c.save_sends.ensures

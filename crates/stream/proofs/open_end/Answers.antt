@@ -1,0 +1,7 @@
+use Rattle.table.specs.LayoutLaws.{ring_sized}
+use Rattle.stream.specs.OpeningLaws.{opened}
+use Rattle.stream.proofs.open_end.Goals as goal
+
+pub returns : goal.returns
+returns c =
+    opened (ring_sized c.size-k.ensures) c.args.t.now c.args.marks.now _ c.args.epoch c.args.interval c.requires.1 c.start-v.ensures c.fresh_line-line.ensures c.fresh_row-row.ensures c.save_all.ensures
