@@ -2,9 +2,10 @@
 ghost use Rattle.std.specs.Prelude.{◌<◌, length};
 
 use super::show;
+use std::io::{Result, Stdout};
 
 // The numbers of a line, in their order, and what becomes of each.
-fn numbers(line: &[u8])
+fn numbers(to: Stdout, line: &[u8]) -> Result<()>
     requires { 0 < length line.now }
 {
     let mut m = [0u64; 16];
@@ -12,37 +13,35 @@ fn numbers(line: &[u8])
     let mut at = script::next(line, 0, b' ');
     while at < line.len() {
         let o = script::numbers::offer(h, &mut m, script::decimal(line, at));
-        show::verdict(o.verdict);
+        show::verdict(to, o.verdict)?;
         h = o.high;
         at = script::next(line, at, b' ');
     }
+    Ok(())
 }
 
 // How far behind the first datagram comes, and the verdict on it.
-fn edge(line: &[u8]) {
+fn edge(to: Stdout, line: &[u8]) -> Result<()> {
     let behind = script::numbers::behind(line);
     if behind == 0 {
-        return;
+        return Ok(());
     }
-    show::number(b" ", behind);
-    show::text(b" behind");
-    show::verdict(script::numbers::late(behind));
+    show::number(to, b" ", behind)?;
+    show::text(to, b" behind")?;
+    show::verdict(to, script::numbers::late(behind))
 }
 
-pub fn line(w: u64, line: &[u8])
+pub fn line(to: Stdout, w: u64, line: &[u8]) -> Result<()>
     requires { 0 < length line.now }
 {
     if w == script::FORM {
-        show::verdict(script::datagram::form(line));
-        return;
+        return show::verdict(to, script::datagram::form(line));
     }
     if w == script::NUMBERS {
-        numbers(line);
-        return;
+        return numbers(to, line);
     }
     if w == script::EDGE {
-        edge(line);
-        return;
+        return edge(to, line);
     }
-    show::text(b" what?");
+    show::text(to, b" what?")
 }

@@ -1,44 +1,46 @@
 // Datagrams, written out.
 ghost use Rattle.std.specs.Prelude.{◌≤◌, length};
 
+use std::io::{Result, Stdout};
+
 // Header and payload of a datagram; of a payload above 16 bytes its size.
-fn one(d: &[u8])
+fn one(to: Stdout, d: &[u8]) -> Result<()>
     requires { 32 ≤ length d.now }
 {
-    super::line(&d[0..20]);
-    super::line(&d[20..32]);
+    super::line(to, &d[0..20])?;
+    super::line(to, &d[20..32])?;
     let n = d.len();
     if n == 32 {
-        return;
+        return Ok(());
     }
     if n <= 48 {
-        super::line(&d[32..n]);
-        return;
+        return super::line(to, &d[32..n]);
     }
-    super::number(b"\n  ", (n - 32) as u64);
-    super::text(b" bytes");
+    super::number(to, b"\n  ", (n - 32) as u64)?;
+    super::text(to, b" bytes")
 }
 
-fn all(out: &[u8]) {
+fn all(to: Stdout, out: &[u8]) -> Result<()> {
     let mut at: usize = 0;
     while 32 <= out.len() - at {
         let m = script::datagram::size_at(out, at);
-        one(&out[at..at + m]);
+        one(to, &out[at..at + m])?;
         at += m;
     }
+    Ok(())
 }
 
 // What tick answered, and every datagram of out that it sent. Answers how many bytes they are.
-pub fn sent(r: i64, out: &[u8]) -> usize {
-    super::answer(r);
+pub fn sent(to: Stdout, r: i64, out: &[u8]) -> Result<usize> {
+    super::answer(to, r)?;
     let n = io::count(r as isize, out);
-    all(&out[..n]);
-    n
+    all(to, &out[..n])?;
+    Ok(n)
 }
 
 // How many datagrams of out a tick sent. Answers how many bytes they are.
-pub fn counted(r: i64, out: &[u8]) -> usize {
+pub fn counted(to: Stdout, r: i64, out: &[u8]) -> Result<usize> {
     let n = io::count(r as isize, out);
-    super::number(b" ", script::datagram::count(&out[..n]));
-    n
+    super::number(to, b" ", script::datagram::count(&out[..n]))?;
+    Ok(n)
 }
