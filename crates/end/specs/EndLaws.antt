@@ -1,5 +1,5 @@
 -- What each call does to the parts of an end: who is concerned with two ends goes by these, and opens no definition. Assumes nothing.
-use Rattle.std.specs.Prelude.{◌≡◌, refl, not, ◌&&◌, List, [], ◌∷◌, ◌++◌, ℕ, zero, suc, ◌+◌, ◌-◌, ◌≤◌, ◌<◌, eqb, ltb, length}
+use Rattle.std.specs.Prelude.{◌≡◌, refl, ◌&&◌, List, [], ◌∷◌, ◌++◌, ℕ, zero, suc, ◌+◌, ◌-◌, ◌≤◌, ◌<◌, eqb, ltb, length}
 use Rattle.std.proofs.Common.{sym, ◌∙◌, arith, length-append, eqb-true, ltb-true}
 use Rattle.laws.specs.Choice.{if_case}
 use Rattle.laws.specs.Rows.{◌or_else◌}

@@ -11,8 +11,6 @@ use Rattle.wire.specs.Reading.{fields_of, form_of, message_of, Decoded, refused,
 use Rattle.wire.specs.FormLaws.{WellFormed, form_formed}
 use Rattle.window.specs.Window.{verdict_of}
 use Rattle.window.specs.Marks.{window_of}
-use Rattle.receiving.specs.Receiving.{Receiving}
-use Rattle.receiving.specs.Receiving as receiving
 use Rattle.receiving.specs.ReadLaws.{refusal_read}
 use Rattle.receiving.specs.Calls.{refusal}
 use Rattle.sending.specs.Acking as acking
@@ -29,7 +27,7 @@ use Rattle.endpoint.specs.Answer.{answer_of}
 use Rattle.endpoint.specs.Calls.{Became, Hears}
 use Rattle.endpoint.specs.BecameLaws.{became_as}
 use Rattle.hearing.specs.Hearing.{place_row, judge_row, hear_row, noting, Noted, HeardData, HeardAck, Heard}
-use Rattle.hearing.specs.HearingLaws.{hear_form, form_zero, place_data, place_ack, place_probe, hearable, Hearing, HearReady}
+use Rattle.hearing.specs.HearingLaws.{hear_form, form_zero, place_data, place_ack, place_probe, hearable, HearReady}
 
 -- THE ANSWER
 payload_length : (d : List ℕ) (h : Header) → h ≡ fields_of d → WellFormed d → length (drop head_size d) ≡ h.length

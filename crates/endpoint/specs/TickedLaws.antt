@@ -18,7 +18,6 @@ use Rattle.sending.specs.Buffers.{sending_of}
 use Rattle.sending.specs.BufferLaws.{moved, SentEnd, sent_end}
 use Rattle.segments.specs.WireLaws.{wire_append, over_rest}
 use Rattle.table.specs.declared.Common.{Common}
-use Rattle.table.specs.declared.Sends as declared
 use Rattle.end.specs.End.{End, clock_of, allowance_of, ack_of, step_of, sent_of, tick_of, output_of}
 use Rattle.table.specs.Layout.{Sections, sections_of, common_words, common_of, sends_words, sends_of, scalars_of, ring_of, end_in, end_of, Going, Sound}
 use Rattle.table.specs.LayoutLaws.{with_common, with_sends, with_ends, with_times, common_words_lem, sends_words_lem}

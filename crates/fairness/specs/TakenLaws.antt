@@ -11,7 +11,7 @@ use Rattle.window.specs.Window.{width}
 use Rattle.window.specs.HistoryLaws.{still_new, high_reached}
 use Rattle.sending.specs.CallLaws.{In, here, there}
 use Rattle.end.specs.End.{End, open_of, hear_answer, sent_of}
-use Rattle.network.specs.World.{Entry, Site, opened, Arrival, handed, stray, Call, gives, finishes, takes, arrives, calls, noted, hear, bytes_of, hand_over, strange, arrive, call, leaving, tick, act}
+use Rattle.network.specs.World.{Entry, Site, opened, Arrival, handed, stray, Call, gives, finishes, takes, arrives, calls, noted, hear, bytes_of, hand_over, strange, arrive, call, leaving, act}
 use Rattle.network.specs.Rounds.{all_choices, play}
 use Rattle.network.specs.Delivered.{numbers_of, Every, nil, cons}
 use Rattle.network.specs.Truth.{sink, position, grant, Forth, Back, back, a_data, a_probe, Pair}

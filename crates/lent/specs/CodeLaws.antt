@@ -1,5 +1,5 @@
 -- The code's runs follow runs of the model, so that what is delivered is true of the bytes really passed in and out. Assumes nothing.
-use Rattle.std.specs.Prelude.{◌≡◌, refl, true, List, [], ◌∷◌, ◌++◌, ℕ, zero, suc, ◌-◌, ◌^◌, ◌<◌, eqb, ℤ, pos, negsuc, length, take}
+use Rattle.std.specs.Prelude.{◌≡◌, refl, List, [], ◌∷◌, ◌++◌, ℕ, zero, suc, ◌-◌, ◌^◌, ◌<◌, eqb, ℤ, pos, negsuc, length, take}
 use Rattle.std.proofs.Common.{sym, ap, subst, ◌∙◌, append-nil, arith}
 use Rattle.std.proofs.Math.Decide.{ℕ_discrete}
 use Rattle.std.proofs.Math.Seq.{take-append_seam}
@@ -7,7 +7,7 @@ use Rattle.laws.specs.Choice.{if}
 use Rattle.laws.specs.Over.{over}
 use Rattle.ring.specs.Ring.{capacity}
 use Rattle.wire.specs.Datagram.{Message, wire}
-use Rattle.wire.specs.Reading.{Decoded, refused, read, decode}
+use Rattle.wire.specs.Reading.{Decoded, read, decode}
 use Rattle.wire.specs.Series.{Series, nothing}
 use Rattle.wire.specs.SeriesLaws.{series_only, series_last, wire_none, wire_next, read_whole}
 use Rattle.sending.specs.CallLaws.{In, here, there}

@@ -7,7 +7,6 @@ use native.Mathlib.Omega.{arith}
 use native.Mathlib.Nat.{le_antisymm}
 use Rattle.laws.specs.Split.{split}
 use Rattle.ring.specs.Ring.{capacity}
-use Rattle.marks.specs.Marks.{mark}
 use Rattle.marks.specs.Stretches.{Put, Marked, Up}
 
 pub marked_none : {m : List ℕ} {a v : ℕ} → Marked m a a v m

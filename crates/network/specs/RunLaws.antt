@@ -3,7 +3,7 @@ use Rattle.std.specs.Prelude.{◌≡◌, refl, true, false, not, List, [], ◌�
 use Rattle.std.proofs.Common.{sym, ◌∙◌, arith, eq-eqb}
 use Rattle.laws.specs.Choice.{if_case}
 use Rattle.wire.specs.Datagram.{Message, DATA, ACK, PROBE, Sendable}
-use Rattle.wire.specs.Reading.{Decoded, refused, read, decode}
+use Rattle.wire.specs.Reading.{Decoded, read, decode}
 use Rattle.wire.specs.RoundTripLaws.{decode_encode}
 use Rattle.window.specs.Window.{verdict_of}
 use Rattle.window.specs.History.Reached.{none as unmarked, more as marked}
@@ -14,10 +14,9 @@ use Rattle.sending.specs.Sending.{Sending}
 use Rattle.end.specs.End.{End, clock_of, sent_of}
 use Rattle.network.specs.World.{Entry, Site, opened, Arrival, handed, stray, Call, gives, finishes, takes, Act, arrives, calls, ticks, noted, hear, bytes_of, hand_over, strange, arrive, call, leaving, tick, act, Choice, near_acts, far_acts, step, run}
 use Rattle.network.specs.Delivered.{numbers_of, is_ack, asks, acks_in, asks_in, Every, nil, cons}
-use Rattle.network.specs.Delivered.Welcome.{accepted}
 use Rattle.end.specs.EndLaws.{Sides, open_is, give_sides, given_is, finish_sides, take_sides, got_is, reached_is, Marked, Accepts, accepts_data, accepts_ack, accepts_probe, Hears, hears, Acks, no_ack, one_ack, tick_is}
 use Rattle.end.specs.EndLaws.Hears.{refuses, takes as accepts}
-use Rattle.network.specs.Truth.{source, sink, position, grant, Forth, forth, an_ack, Back, back, Flow, Numbered, Own, Pair}
+use Rattle.network.specs.Truth.{source, sink, position, grant, Forth, forth, an_ack, Back, Flow, Numbered, Own, Pair}
 use Rattle.network.specs.FlowLaws.{every_map, every_append, flow_give, flow_finish, flow_ack, flow_send, flow_hear, flow_take, flow_acks, back_now, back_true, flow_start, forth_sendable, ack_sendable}
 
 -- THE OTHER WAY ROUND

@@ -24,7 +24,7 @@ use Rattle.receiving.specs.Receiving as receiving
 use Rattle.receiving.specs.TruthLaws.{says_whole}
 use Rattle.receiving.specs.AckLaws.{taken_low, low_room, got_length}
 use Rattle.receiving.specs.ReceivingLaws.{receiving_take, low_true, ended_when}
-use Rattle.end.specs.End.{got_of, hear_answer}
+use Rattle.end.specs.End.{hear_answer}
 use Rattle.network.specs.World.{Entry, Site, bytes_of, Choice, run}
 use Rattle.network.specs.Rounds.{Round, all_choices, play}
 use Rattle.network.specs.Delivered.{Distinct, Every, nil, cons, Welcome, Delivered, BothWays}
@@ -32,7 +32,7 @@ use Rattle.network.specs.Delivered.Distinct.{none as no_number, more as one_more
 use Rattle.network.specs.Delivered.Welcome.{accepted, too_old, taken_before}
 use Rattle.end.specs.EndLaws.{got_is, reached_is, Placed, placed_data, placed_ack, placed_probe, answer_number}
 use Rattle.receiving.specs.NetworkLaws.{past_end}
-use Rattle.network.specs.Truth.{Source, Sink, sink, position, grant, Forth, forth, Back, back, a_data, a_probe, Flow, Numbered, Pair}
+use Rattle.network.specs.Truth.{Source, Sink, sink, position, grant, Forth, Back, back, a_data, a_probe, Flow, Numbered, Pair}
 use Rattle.network.specs.FlowLaws.{taken_says, data_placed, ack_placed}
 use Rattle.network.specs.RunLaws.{swap, Honest, entry_read, run_pair}
 

@@ -1,5 +1,5 @@
 -- Laws of dropping: the oldest segments go, one after the other. Assumes nothing.
-use Rattle.std.specs.Prelude.{◌≡◌, refl, ℕ, ◌+◌, ◌≤◌, ◌<◌}
+use Rattle.std.specs.Prelude.{◌≡◌, refl, ℕ, ◌≤◌, ◌<◌}
 use mathlib.Core.List.{List, [], ◌∷◌, ◌++◌}
 use Rattle.std.proofs.Common.{arith, lt-ltb, le-ltb}
 use Rattle.sending.specs.Sending.{Segment, start_of}

@@ -1,5 +1,5 @@
 -- 01 §2 and §6: worked examples, computed.
-use Rattle.std.specs.Prelude.{◌≡◌, refl, List, [], ◌∷◌, ◌++◌, ℕ, ◌+◌, length, replicate}
+use Rattle.std.specs.Prelude.{◌≡◌, refl, List, [], ◌∷◌, ◌++◌, ℕ, length, replicate}
 use Rattle.wire.specs.Datagram.{Message, DATA, ACK, PROBE, kind_of, flags_of, position_of, credit_of, payload_of, be, head_of, header_of, encode, wire}
 use Rattle.segments.specs.declared.Tick.{Tick}
 use Rattle.sending.specs.Sending.{never, Sending, fresh, start_of, part_of, data_of}

@@ -31,7 +31,7 @@ use Rattle.table.specs.Layout.{common_size, sends_at, sends_size, ends_at, times
 use Rattle.table.specs.LayoutLaws.{common_size_lem, sends_size_lem, put_common, put_sends, put_ends, put_times, ends_size, times_size, ring_size}
 use Rattle.table.specs.Rows.{output_least, output_row}
 use Rattle.table.specs.ReadyLaws.{Ready}
-use Rattle.ticking.specs.Ticking.{clock_by, allowance_by, acks_by, AckSent, SendReady, SegmentsSent, may_of, Planned, ack_messages, AckReady, AckOver, TickReady, ticking, Ticked}
+use Rattle.ticking.specs.Ticking.{clock_by, allowance_by, acks_by, AckSent, SendReady, SegmentsSent, may_of, Planned, ack_messages, AckReady, AckOver, TickReady, Ticked}
 
 -- THE NUMBERS, as the code computes them
 pub output_short : (n : ℕ) → n < output_least → 13 ≡ output_row n

@@ -1,5 +1,5 @@
 -- 01 §4: numbers, taken at most once.
-use Rattle.std.specs.Prelude.{not, List, ◌∷◌, ◌++◌, ℕ, ◌-◌, ◌+◌, eqb, ltb, leb, get_or, set, take, replicate}
+use Rattle.std.specs.Prelude.{not, List, ◌∷◌, ◌++◌, ℕ, ◌-◌, eqb, ltb, leb, get_or, set, take, replicate}
 use Rattle.laws.specs.Choice.{if}
 use Rattle.laws.specs.Rows.{when, ◌or_else◌, branch}
 

@@ -1,4 +1,3 @@
-use Prim.Native.Nat.{◌-◌}
 use borrow.Author.Rules.{rules}
 use Rattle.arrivals.proofs.StepsLaws.{stored_none, stored_more, stored_all}
 use Rattle.arrivals.proofs.store.Goals as goal

@@ -1,6 +1,5 @@
 use Rattle.copies.proofs.FillingLaws.{fill_more, filled}
 use mathlib.Core.Path.{◌∙◌}
-use Prim.Native.Nat.{◌-◌}
 use native.Mathlib.Omega.{arith}
 use lib.ListN.{length-set}
 use Rattle.copies.proofs.fill.Goals as goal

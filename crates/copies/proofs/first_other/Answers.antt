@@ -1,4 +1,3 @@
-use Prim.Native.Nat.{◌-◌}
 use Rattle.copies.specs.Search.{searched}
 use borrow.Author.Rules.{rules}
 use Rattle.copies.proofs.SearchLaws.{more_same, other_from}

@@ -1,4 +1,3 @@
-use Prim.Native.Nat.{◌-◌}
 use borrow.Author.Rules.{rules}
 use Rattle.finding.proofs.FindLaws.{skips_none, skips_more, finds_stop, finds_end}
 use Rattle.finding.proofs.find_each.Goals as goal

@@ -1,4 +1,3 @@
-use Prim.Native.Nat.{◌-◌}
 use borrow.Author.Rules.{rules}
 use Rattle.marks.proofs.StretchLaws.{marked_none, marked_more, marked_all}
 use Rattle.marks.proofs.put_each.Goals as goal

@@ -1,5 +1,4 @@
 use Rattle.steps.proofs.Cutting.{cutting_none, cutting_more, cutting_full, cutting_nothing, cutting_all}
-use Prim.Native.Nat.{◌-◌}
 use borrow.Author.Rules.{rules}
 use Rattle.steps.proofs.cut.Goals as goal
 

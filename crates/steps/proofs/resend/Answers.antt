@@ -1,6 +1,5 @@
 use Rattle.segments.specs.StepLaws.{due_allowed}
 use Rattle.steps.proofs.Resending.{resending_none, resending_skip, resending_send, resending_full, resending_all}
-use Prim.Native.Nat.{◌-◌}
 use borrow.Author.Rules.{rules}
 use Rattle.steps.proofs.resend.Goals as goal
 

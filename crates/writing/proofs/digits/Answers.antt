@@ -1,4 +1,3 @@
-use Prim.Native.Nat.{◌-◌}
 use borrow.Author.Rules.{rules}
 use Rattle.writing.proofs.Bytes.{putting_none, putting_more, putting_all}
 use Rattle.writing.proofs.digits.Goals as goal
