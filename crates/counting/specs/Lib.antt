@@ -2,8 +2,6 @@
 pub mod Count
 pub mod CountLaws
 pub mod Bounds
-pub mod Table
 pub mod Variants
 pub mod Turns
-pub mod TurnsLaws
 pub mod TimerLaws

@@ -27,7 +27,8 @@ use Rattle.endpoint.specs.Answer.{answer_of}
 use Rattle.endpoint.specs.Calls.{Became, Hears}
 use Rattle.endpoint.specs.BecameLaws.{became_as}
 use Rattle.hearing.specs.Hearing.{place_row, judge_row, hear_row, noting, Noted, HeardData, HeardAck, Heard}
-use Rattle.hearing.specs.HearingLaws.{hear_form, form_zero, place_data, place_ack, place_probe, hearable, HearReady}
+use Rattle.hearing.specs.Judged.{HearReady}
+use Rattle.hearing.proofs.HearingLaws.{hear_form, form_zero, place_data, place_ack, place_probe, hearable}
 
 -- THE ANSWER
 payload_length : (d : List ℕ) (h : Header) → h ≡ fields_of d → WellFormed d → length (drop head_size d) ≡ h.length

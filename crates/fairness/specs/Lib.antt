@@ -6,11 +6,4 @@ pub mod Networks
 pub mod SideLaws
 pub mod StateLaws
 pub mod OldestLaws
-pub mod TakenLaws
-pub mod AnswerLaws
-pub mod SegmentLaws
-pub mod CreditLaws
-pub mod EdgeLaws
 pub mod CutsLaws
-pub mod AllLaws
-pub mod Statement

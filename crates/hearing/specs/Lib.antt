@@ -1,2 +1,2 @@
 pub mod Hearing
-pub mod HearingLaws
+pub mod Judged

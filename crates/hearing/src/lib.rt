@@ -9,7 +9,7 @@ ghost use Rattle.window.specs.Window.{width};
 ghost use Rattle.table.specs.Layout.{table_words, sections_of, common_of};
 ghost use Rattle.table.specs.ReadyLaws.{Ready};
 ghost use Rattle.hearing.specs.Hearing.{place_row, judge_row, hear_row, Noted, DataDone, AckDone, Heard};
-ghost use Rattle.hearing.specs.HearingLaws.{Judged, Hearing, HearReady};
+ghost use Rattle.hearing.specs.Judged.{Judged, Hearing, HearReady};
 
 use sending::Line;
 use table::{

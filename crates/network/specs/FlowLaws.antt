@@ -13,9 +13,9 @@ use Rattle.wire.specs.Datagram.Sendable.{a_DATA, an_ACK, a_PROBE}
 use Rattle.receiving.specs.Receiving.{Receiving, hear_of, got_of, take_of, ended_of, ack_position, ack_credit, refusal_of}
 use Rattle.receiving.specs.Receiving as receiving
 use Rattle.receiving.specs.Truth.{ReceivingOK}
-use Rattle.receiving.specs.TruthLaws.{says_length, says_whole}
+use Rattle.receiving.proofs.TruthLaws.{says_length, says_whole}
 use Rattle.receiving.specs.AckLaws.{taken_low, position_low, ack_says, position_hear, position_take, limit_hear, limit_take}
-use Rattle.receiving.specs.ReceivingLaws.{receiving_start, receiving_give, receiving_close, receiving_hear, receiving_take, ended_closed, ended_all, ack_true, grant_true, never_refused}
+use Rattle.receiving.proofs.ReceivingLaws.{receiving_start, receiving_give, receiving_close, receiving_hear, receiving_take, ended_closed, ended_all, ack_true, grant_true, never_refused}
 use Rattle.segments.specs.declared.Tick.{Tick}
 use Rattle.sending.specs.Sending as sending
 use Rattle.sending.specs.Giving.{taken_of, give_of, finish_of}

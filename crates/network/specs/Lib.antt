@@ -4,7 +4,4 @@ pub mod Rounds
 pub mod Delivered
 pub mod Truth
 pub mod FlowLaws
-pub mod RunLaws
-pub mod Statement
 pub mod Computing
-pub mod Samples

@@ -6,7 +6,3 @@ pub mod ReadLaws
 pub mod RefusalLaws
 pub mod AckLaws
 pub mod Truth
-pub mod TruthLaws
-pub mod ReceivingLaws
-pub mod Samples
-pub mod NetworkLaws

@@ -5,7 +5,7 @@ use borrow.Rule.Slice.PartMut.{put_mid}
 use Rattle.laws.specs.Part.{part}
 use Rattle.laws.specs.PartLaws.{length_put}
 use Rattle.ring.specs.Ring.{capacity}
-use Rattle.window.specs.MarksLaws.{window_fresh}
+use Rattle.window.proofs.MarksLaws.{window_fresh}
 use Rattle.receiving.specs.declared.Scalars.{Scalars}
 use Rattle.receiving.specs.Calls as receiving
 use Rattle.segments.specs.declared.Line.{Line}

@@ -8,7 +8,7 @@ use native.Mathlib.Omega.{arith}
 use lib.ListN.{length}
 use Rattle.window.specs.Window.{width}
 use Rattle.window.specs.Marks.{mark, Put}
-use Rattle.window.specs.MarksLaws.{Marked}
+use Rattle.window.proofs.MarksLaws.{Marked}
 
 -- the marks of a .. q - 1 are cleared, and those of the window of p below a are as they were
 pub record Cleared (m₀ : List ℕ) (a p q : ℕ) (m : List ℕ) : Type 0 where

@@ -1,6 +1,3 @@
 pub mod Window
-pub mod WindowLaws
 pub mod Marks
-pub mod MarksLaws
 pub mod History
-pub mod HistoryLaws

@@ -8,7 +8,7 @@ use lib.ListN.{get_or, drop}
 use lib.Seq.{get_or-take, get_or-drop}
 use Rattle.laws.specs.Part.{part}
 use Rattle.wire.specs.Reading.{num, Got}
-use Rattle.wire.specs.ReadingLaws.{num_more}
+use Rattle.wire.proofs.ReadingLaws.{num_more}
 
 get_d_part : (s : List ℕ) (a n j : ℕ) → j < n → get_or (part a n s) j 0 ≡ get_or s (a + j) 0
 get_d_part s a n j l = get_or-take n (drop a s) j 0 l ∙ get_or-drop a s j 0

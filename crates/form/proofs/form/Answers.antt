@@ -1,7 +1,7 @@
 use borrow.Author.Rules.{rules}
 use Rattle.wire.specs.Reading.{form_of}
 use Rattle.laws.specs.RowsLaws.{rows}
-use Rattle.wire.specs.ReadingLaws.{form_rows}
+use Rattle.wire.proofs.ReadingLaws.{form_rows}
 use Rattle.form.proofs.form.Goals as goal
 
 pub returns-then-d-lt32 : goal.returns-then-d-lt32

@@ -1,6 +1,6 @@
 use native.Mathlib.Omega.{arith}
 use Rattle.table.specs.Layout.{sections_of}
-use Rattle.hearing.specs.HearingLaws.{ack_row, ack_within, judged_some, judged_near, ack_done}
+use Rattle.hearing.proofs.HearingLaws.{ack_row, ack_within, judged_some, judged_near, ack_done}
 use borrow.Author.Rules.{rules}
 use Rattle.hearing.proofs.ack.Goals as goal
 

@@ -1,5 +1,5 @@
 use Rattle.table.specs.LayoutLaws.{ring_sized}
-use Rattle.hearing.specs.HearingLaws.{data_lent, data_room, data_some, data_near, data_done}
+use Rattle.hearing.proofs.HearingLaws.{data_lent, data_room, data_some, data_near, data_done}
 use borrow.Author.Rules.{rules}
 use Rattle.hearing.proofs.data.Goals as goal
 

@@ -1,4 +1,4 @@
-use Rattle.hearing.specs.HearingLaws.{may_hearing, may_judged, judged_some, judged_near, heard_data, heard_ack, heard_probe}
+use Rattle.hearing.proofs.HearingLaws.{may_hearing, may_judged, judged_some, judged_near, heard_data, heard_ack, heard_probe}
 use Rattle.hearing.proofs.hear.Goals as goal
 
 pub data-requires : goal.data-requires

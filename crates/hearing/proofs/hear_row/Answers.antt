@@ -1,4 +1,4 @@
-use Rattle.hearing.specs.HearingLaws.{hear_form, hear_judge, form_header}
+use Rattle.hearing.proofs.HearingLaws.{hear_form, hear_judge, form_header}
 use borrow.Author.Rules.{rules}
 use Rattle.hearing.proofs.hear_row.Goals as goal
 

@@ -1,4 +1,4 @@
-use Rattle.hearing.specs.HearingLaws.{judge_epoch, judge_number, judge_place}
+use Rattle.hearing.proofs.HearingLaws.{judge_epoch, judge_number, judge_place}
 use Rattle.table.specs.Layout.{sections_of}
 use borrow.Author.Rules.{rules}
 use Rattle.hearing.proofs.judge.Goals as goal

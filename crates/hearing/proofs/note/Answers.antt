@@ -1,5 +1,5 @@
 use Rattle.table.specs.Layout.{sections_of}
-use Rattle.hearing.specs.HearingLaws.{near_loaded, noted}
+use Rattle.hearing.proofs.HearingLaws.{near_loaded, noted}
 use borrow.Author.Rules.{rules}
 use Rattle.hearing.proofs.note.Goals as goal
 

@@ -1,4 +1,4 @@
-use Rattle.hearing.specs.HearingLaws.{place_data, place_ack, place_probe}
+use Rattle.hearing.proofs.HearingLaws.{place_data, place_ack, place_probe}
 use Rattle.table.specs.ReadyLaws.{ready_ranged}
 use borrow.Author.Rules.{rules}
 use Rattle.hearing.proofs.place.Goals as goal

@@ -1,6 +1,6 @@
 use native.Mathlib.Omega.{arith}
 use borrow.Author.Rules.{rules}
-use Rattle.window.specs.MarksLaws.{marked_accepts}
+use Rattle.window.proofs.MarksLaws.{marked_accepts}
 use Rattle.window.proofs.Steps.{Starts, cleared_none, cleared_more, accepted_above, accepted_within}
 use Rattle.window.proofs.accept.Goals as goal
 use Rattle.window.proofs.accept.Goals.{then-p-h-gt-WIDTH, else-p-h-gt-WIDTH}

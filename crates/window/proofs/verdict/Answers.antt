@@ -1,5 +1,5 @@
 use borrow.Author.Rules.{rules}
-use Rattle.window.specs.MarksLaws.{verdicts}
+use Rattle.window.proofs.MarksLaws.{verdicts}
 use Rattle.window.proofs.verdict.Goals as goal
 
 pub returns-then-p-eq0 : goal.returns-then-p-eq0

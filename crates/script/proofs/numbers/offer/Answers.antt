@@ -1,5 +1,5 @@
 use borrow.Author.Rules.{rules}
-use Rattle.window.specs.MarksLaws.{new_near, new_some}
+use Rattle.window.proofs.MarksLaws.{new_near, new_some}
 use Rattle.script.proofs.numbers.offer.Goals as goal
 
 pub accept-requires : goal.accept-requires

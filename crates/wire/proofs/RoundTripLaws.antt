@@ -10,7 +10,7 @@ use Rattle.wire.specs.Datagram.{head_size, payload_most, Message, DATA, ACK, PRO
 use Rattle.wire.specs.Datagram.Sendable.{a_DATA, an_ACK, a_PROBE}
 use Rattle.wire.specs.DatagramLaws.{be_length, be_at, head_length, encode_length}
 use Rattle.wire.specs.Reading.{num, fields_of, data_row, plain_row, rows_of, form_of, message_of, read, decode_as, decode}
-use Rattle.wire.specs.ReadingLaws.{Narrow, fields_head, same_fields}
+use Rattle.wire.proofs.ReadingLaws.{Narrow, fields_head, same_fields}
 use Rattle.wire.specs.FormLaws.{Formed, WellFormed, form_formed}
 
 -- WHAT IS ENCODED DECODES

@@ -10,13 +10,13 @@ use Rattle.sending.specs.TickLaws.{Last, Waits}
 use Rattle.counting.specs.Bounds.{hand_ticks, drop_ticks}
 use Rattle.fairness.specs.Timed.{Plan, Side, other, interval_of, site_at, end_at}
 use Rattle.fairness.specs.Networks.{FairNetwork, Going, Takers, GivenAtStart}
-use Rattle.counting.specs.TurnsLaws.{here_by, known_by}
+use Rattle.counting.proofs.TurnsLaws.{here_by, known_by}
 use Rattle.fairness.specs.StateLaws.{orderly_at, position_at, position_up, acked_up}
 use Rattle.fairness.specs.OldestLaws.{Holds}
-use Rattle.fairness.specs.SegmentLaws.{behind, segment_turns}
+use Rattle.fairness.proofs.SegmentLaws.{behind, segment_turns}
 use Rattle.fairness.specs.CutsLaws.{Mark, start, inner, whole}
-use Rattle.fairness.specs.AllLaws.{bytes_of, whole_of, cuts_at, chain_above, acked_whole, Next, all_gone, oldest_ends, last_ends, next_end, handed_up}
-use Rattle.fairness.specs.CreditLaws.{takes_grants, waits_held, credit_turns}
+use Rattle.fairness.proofs.AllLaws.{bytes_of, whole_of, cuts_at, chain_above, acked_whole, Next, all_gone, oldest_ends, last_ends, next_end, handed_up}
+use Rattle.fairness.proofs.CreditLaws.{takes_grants, waits_held, credit_turns}
 
 -- a segment that is the oldest kept
 oldest_holds : (σ : Plan) (d : Side) (t : ℕ) (g : Segment) → Last g (end_at σ d t).sending.kept → Holds σ d (end_at σ d t).sending.acked g.to t

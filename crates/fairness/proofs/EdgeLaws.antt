@@ -3,15 +3,15 @@ use Rattle.std.specs.Prelude.{◌≡◌, ℕ, ◌+◌, ◌-◌, ◌*◌, ◌^◌
 use Rattle.std.proofs.Math.Decide.{ℕ_discrete, dec_lt}
 use Rattle.std.proofs.Common.{arith}
 use Rattle.window.specs.Window.{width, Window, seen_of, verdict_of}
-use Rattle.window.specs.WindowLaws.{verdict_above, verdict_new, verdict_again}
+use Rattle.window.proofs.WindowLaws.{verdict_above, verdict_new, verdict_again}
 use Rattle.sending.specs.CallLaws.{In}
 use Rattle.network.specs.World.{Entry, Arrival}
 use Rattle.fairness.specs.Timed.{Plan, Side, other, site_at, end_at}
 use Rattle.fairness.specs.Networks.{sent_in}
 use Rattle.fairness.specs.TimedLaws.{twice, heard}
 use Rattle.fairness.specs.StateLaws.{number_few}
-use Rattle.fairness.specs.TakenLaws.{pair_at, heard_pair, sent_above, Under, under_at, heard_under, high_under}
-use Rattle.network.specs.RunLaws.{swap}
+use Rattle.fairness.proofs.TakenLaws.{pair_at, heard_pair, sent_above, Under, under_at, heard_under, high_under}
+use Rattle.network.proofs.RunLaws.{swap}
 
 -- WINDOW EDGE: e was sent in tick k, and tick j is one of the D after it. Whatever the other end has heard by then, and xs in this tick,
 -- its h is at most 32 * D - 1 above e

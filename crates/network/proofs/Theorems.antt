@@ -15,15 +15,15 @@ use Rattle.ring.specs.Ring.{capacity}
 use Rattle.wire.specs.Datagram.{Message}
 use Rattle.wire.specs.Reading.{read, decode}
 use Rattle.window.specs.Window.{width, Window, seen_of, verdict_of}
-use Rattle.window.specs.WindowLaws.{verdict_above, verdict_old, verdict_new, verdict_again}
+use Rattle.window.proofs.WindowLaws.{verdict_above, verdict_old, verdict_new, verdict_again}
 use Rattle.window.specs.History.{Reached}
 use Rattle.window.specs.History.Reached.{none as unmarked, more as marked}
-use Rattle.window.specs.HistoryLaws.{never_again}
+use Rattle.window.proofs.HistoryLaws.{never_again}
 use Rattle.receiving.specs.Receiving.{low_of}
 use Rattle.receiving.specs.Receiving as receiving
-use Rattle.receiving.specs.TruthLaws.{says_whole}
+use Rattle.receiving.proofs.TruthLaws.{says_whole}
 use Rattle.receiving.specs.AckLaws.{taken_low, low_room, got_length}
-use Rattle.receiving.specs.ReceivingLaws.{receiving_take, low_true, ended_when}
+use Rattle.receiving.proofs.ReceivingLaws.{receiving_take, low_true, ended_when}
 use Rattle.end.specs.End.{hear_answer}
 use Rattle.network.specs.World.{Entry, Site, bytes_of, Choice, run}
 use Rattle.network.specs.Rounds.{Round, all_choices, play}
@@ -31,10 +31,10 @@ use Rattle.network.specs.Delivered.{Distinct, Every, nil, cons, Welcome, Deliver
 use Rattle.network.specs.Delivered.Distinct.{none as no_number, more as one_more}
 use Rattle.network.specs.Delivered.Welcome.{accepted, too_old, taken_before}
 use Rattle.end.specs.EndLaws.{got_is, reached_is, Placed, placed_data, placed_ack, placed_probe, answer_number}
-use Rattle.receiving.specs.NetworkLaws.{past_end}
+use Rattle.receiving.proofs.NetworkLaws.{past_end}
 use Rattle.network.specs.Truth.{Source, Sink, sink, position, grant, Forth, Back, back, a_data, a_probe, Flow, Numbered, Pair}
 use Rattle.network.specs.FlowLaws.{taken_says, data_placed, ack_placed}
-use Rattle.network.specs.RunLaws.{swap, Honest, entry_read, run_pair}
+use Rattle.network.proofs.RunLaws.{swap, Honest, entry_read, run_pair}
 
 -- NUMBERS
 distinct : {s : List ℕ} {w : Window} → Reached s w → Distinct s

@@ -8,7 +8,7 @@ use Rattle.laws.specs.Choice.{if, if_case}
 use Rattle.wire.specs.Datagram.{Message}
 use Rattle.wire.specs.Reading.{Decoded, read, decode}
 use Rattle.window.specs.Window.{width}
-use Rattle.window.specs.HistoryLaws.{still_new, high_reached}
+use Rattle.window.proofs.HistoryLaws.{still_new, high_reached}
 use Rattle.sending.specs.CallLaws.{In, here, there}
 use Rattle.end.specs.End.{End, open_of, hear_answer, sent_of}
 use Rattle.network.specs.World.{Entry, Site, opened, Arrival, handed, stray, Call, gives, finishes, takes, arrives, calls, noted, hear, bytes_of, hand_over, strange, arrive, call, leaving, act}
@@ -18,7 +18,7 @@ use Rattle.network.specs.Truth.{sink, position, grant, Forth, Back, back, a_data
 use Rattle.network.specs.FlowLaws.{data_placed, ack_placed}
 use Rattle.end.specs.EndLaws.{Accepts, Hears, hears, Placed, placed_data, placed_ack, placed_probe, answer_number}
 use Rattle.end.specs.EndLaws.Hears.{refuses, takes as accepts}
-use Rattle.network.specs.RunLaws.{swap, Honest, entry_read, act_pair, run_pair}
+use Rattle.network.proofs.RunLaws.{swap, Honest, entry_read, act_pair, run_pair}
 use Rattle.fairness.specs.Timed.{Plan, rounds_of, at, Side, the_near, the_far, other, arrivals_of, calls_of, site_at, end_at}
 use Rattle.fairness.specs.Networks.{sent_in, Stands, first, later}
 use Rattle.fairness.specs.TimedLaws.{twice, heard, called, ready, ready_at}

@@ -6,7 +6,7 @@ use Rattle.ring.specs.Ring.{capacity}
 use Rattle.wire.specs.Datagram.{Message, PROBE}
 use Rattle.receiving.specs.Receiving.{Receiving, low_of, ack_position, ack_credit}
 use Rattle.receiving.specs.AckLaws.{low_room, ack_says}
-use Rattle.receiving.specs.NetworkLaws.{past_end}
+use Rattle.receiving.proofs.NetworkLaws.{past_end}
 use Rattle.sending.specs.Sending.{Probed, never, tick, Sending}
 use Rattle.sending.specs.Giving as giving
 use Rattle.sending.specs.Acking as acking
@@ -27,9 +27,9 @@ use Rattle.fairness.specs.TimedLaws.{ready_at}
 use Rattle.fairness.specs.SideLaws.{Moves, stays, acks, given, closed, moves_orderly, moves_limit}
 use Rattle.fairness.specs.StateLaws.{work, sent_is, ticks_at, works_at, now_at, interval_at, stays_ready, orderly_at, past_at, limit_up, ready_next, allowed_at, grant_at, grant_up}
 use Rattle.fairness.specs.OldestLaws.{in_left, sends_it, sends_one}
-use Rattle.fairness.specs.TakenLaws.{pair_at, ready_pair, in_time}
-use Rattle.fairness.specs.AnswerLaws.{answers}
-use Rattle.fairness.specs.SegmentLaws.{interval_some, took_ack}
+use Rattle.fairness.proofs.TakenLaws.{pair_at, ready_pair, in_time}
+use Rattle.fairness.proofs.AnswerLaws.{answers}
+use Rattle.fairness.proofs.SegmentLaws.{interval_some, took_ack}
 
 -- the last PROBE, where there was one, was at a
 pub data Probes (a : ℕ) : Probed → Type 0 where

@@ -4,7 +4,7 @@ use Rattle.std.proofs.Common.{arith}
 use Rattle.receiving.specs.Receiving.{Receiving, low_of, end_at, ack_position}
 use Rattle.receiving.specs.Truth.{ReceivingOK}
 use Rattle.receiving.specs.ReadLaws.{end_at_small}
-use Rattle.receiving.specs.ReceivingLaws.{end_true}
+use Rattle.receiving.proofs.ReceivingLaws.{end_true}
 
 pub record Arrived (H : List ℕ) (closed : ℕ) (v : Receiving) : Type 0 where
   pub finished : closed ≡ 1

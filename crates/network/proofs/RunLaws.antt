@@ -4,7 +4,7 @@ use Rattle.std.proofs.Common.{sym, ◌∙◌, arith, eq-eqb}
 use Rattle.laws.specs.Choice.{if_case}
 use Rattle.wire.specs.Datagram.{Message, DATA, ACK, PROBE, Sendable}
 use Rattle.wire.specs.Reading.{Decoded, read, decode}
-use Rattle.wire.specs.RoundTripLaws.{decode_encode}
+use Rattle.wire.proofs.RoundTripLaws.{decode_encode}
 use Rattle.window.specs.Window.{verdict_of}
 use Rattle.window.specs.History.Reached.{none as unmarked, more as marked}
 use Rattle.receiving.specs.Receiving.{Receiving}

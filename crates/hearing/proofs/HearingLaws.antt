@@ -13,7 +13,7 @@ use Rattle.wire.specs.Reading.{fields_of, form_of, Fields}
 use Rattle.wire.specs.FormLaws.{WellFormed, form_formed}
 use Rattle.window.specs.Window.{width, verdict_of}
 use Rattle.window.specs.Marks.{window_of, Accepts}
-use Rattle.window.specs.MarksLaws.{new_near, new_some}
+use Rattle.window.proofs.MarksLaws.{new_near, new_some}
 use Rattle.receiving.specs.declared.Scalars.{Scalars}
 use Rattle.receiving.specs.RefusalLaws.{judge_room}
 use Rattle.receiving.specs.Calls as receiving
@@ -29,6 +29,7 @@ use Rattle.table.specs.Layout.{common_size, sends_at, sends_size, receives_at, r
 use Rattle.table.specs.LayoutLaws.{common_size_lem, sends_size_lem, scalars_size, put_common, put_sends, put_receives, put_window, window_size_lem, ring_put_lem, ring_size}
 use Rattle.table.specs.ReadyLaws.{ready_ranged}
 use Rattle.table.specs.ReadyLaws.{Ready}
+use Rattle.hearing.specs.Judged.{Judged, Hearable, Hearing, HearReady}
 use Rattle.hearing.specs.Hearing.{place_row, judge_row, hear_row, noting, Noted, DataDone, AckDone, Heard}
 
 -- THE ROWS, as the code goes through them
@@ -72,11 +73,6 @@ module _ (s : Sections) (d : List ℕ) (f : ℕ) (e : f ≡ form_of d) where
   hear_judge r z k q = miss_row r _ _ f e z (rw k.are at q)
 
 -- WHAT AN ANSWER OF 0 SAYS
-pub record Judged (s : Sections) (h : Header) : Type 0 where
-  pub epoch : h.epoch ≡ (common_of s.common).epoch
-  pub verdict : verdict_of (window_of (common_of s.common).high s.window) h.number ≡ 0
-  pub placed : place_row s h ≡ 0
-
 pub judged : (s : Sections) (h : Header) → judge_row s h ≡ 0 → Judged s h
 unfolding judge_row
 judged s h z =
@@ -94,11 +90,6 @@ unfolding place_row
 judged_room {s} {h} {v} j k e l =
     let z = then_eq (receiving.refusal (scalars_of s.receives) h.position h.length h.flags) _ _ h.kind 1 k refl ∙ j.placed in
     rw e (judge_room (scalars_of s.receives) h.position h.length h.flags 0 (sym z) refl l)
-
--- a datagram that may be heard
-pub record Hearable (s : Sections) (d : List ℕ) : Type 0 where
-  pub well : WellFormed d
-  pub judged_zero : judge_row s (fields_of d) ≡ 0
 
 pub hearable : (s : Sections) (d : List ℕ) (r : ℕ) → r ≡ hear_row s d → r ≡ 0 → Hearable s d
 unfolding hear_row
@@ -130,16 +121,6 @@ noted t x y number due high c lt e a ey =
       accepts = rw (← e) a;
       sections = put_common t₁ y (omega arith) n ∙ rw (put_window t x lt l, ey, e);
     }
-
--- what hearing a DATA asks
-pub record Hearing (t : List ℕ) (i m : ℕ) (d : List ℕ) (h : Header) : Type 0 where
-  pub table_size : table_words ≤ length t
-  pub incoming_size : capacity ≤ i
-  pub marks_size : capacity ≤ m
-  pub ready : Ready (sections_of t)
-  pub fields : Fields d h
-  pub well : WellFormed d
-  pub is_judged : Judged (sections_of t) h
 
 -- A DATA
 -- its payload, as the code lends it
@@ -221,14 +202,6 @@ ack_done {t} {t₁} {y} {h} {c} {u} {r} {g} lt ec e a gr n ey =
     }
 
 -- ANY DATAGRAM
--- what hearing one asks, before its fields are read
-pub record HearReady (t : List ℕ) (i m : ℕ) (d : List ℕ) : Type 0 where
-  pub table_size : table_words ≤ length t
-  pub incoming_size : capacity ≤ i
-  pub marks_size : capacity ≤ m
-  pub ready : Ready (sections_of t)
-  pub may : Hearable (sections_of t) d
-
 module _ {t : List ℕ} {i m : ℕ} {d : List ℕ} {h : Header} (k : HearReady t i m d) (f : Fields d h) where
   pub may_judged : Judged (sections_of t) h
   may_judged = rw f.are (judged (sections_of t) (fields_of d) k.may.judged_zero)

@@ -5,7 +5,7 @@ use mathlib.Core.List.Memᴰ
 use mathlib.Core.List.{List, [], ◌∷◌, Memᴰ}
 use Rattle.std.proofs.Math.Decide.{ℕ_discrete, dec_le}
 use Rattle.window.specs.Window.{width, Window, fresh, seen_of, verdict_of, accept_of}
-use Rattle.window.specs.WindowLaws.{length_unseen, unseen_at, new_is, is_new, Accepted, accept_accepted}
+use Rattle.window.proofs.WindowLaws.{length_unseen, unseen_at, new_is, is_new, Accepted, accept_accepted}
 use Rattle.window.specs.History.{Reached, none, more}
 
 -- what a history says of its window

@@ -5,8 +5,8 @@ use Rattle.std.proofs.Math.Decide.{dec_lt}
 use Rattle.ring.specs.Ring.{capacity}
 use Rattle.wire.specs.Datagram.{payload_most}
 use Rattle.receiving.specs.Receiving.{low_of, ack_position}
-use Rattle.receiving.specs.TruthLaws.{says_length, says_whole}
-use Rattle.receiving.specs.NetworkLaws.{past_end}
+use Rattle.receiving.proofs.TruthLaws.{says_length, says_whole}
+use Rattle.receiving.proofs.NetworkLaws.{past_end}
 use Rattle.segments.specs.declared.Tick.{Tick}
 use Rattle.sending.specs.Sending.{Segment, Sending, line_of, start_of}
 use Rattle.sending.specs.Sending as sending
@@ -18,7 +18,7 @@ use Rattle.sending.specs.OrderLaws.{chain_up, acked_next}
 use Rattle.sending.specs.TickLaws.{next_send, Last, last_has, has_in, resent_few, NewSegment, cut_new, cut_last}
 use Rattle.end.specs.End.{End, open_of}
 use Rattle.network.specs.FlowLaws.{taken_says}
-use Rattle.fairness.specs.TakenLaws.{pair_at}
+use Rattle.fairness.proofs.TakenLaws.{pair_at}
 use Rattle.fairness.specs.Timed.{Plan, Side, other, site_at, end_at}
 use Rattle.fairness.specs.Networks.{Going, GivenAtStart}
 use Rattle.fairness.specs.TimedLaws.{ready_at}

@@ -9,7 +9,7 @@ use Rattle.ring.specs.Ring.{capacity}
 use Rattle.wire.specs.Datagram.{Message, wire}
 use Rattle.wire.specs.Reading.{Decoded, read, decode}
 use Rattle.wire.specs.Series.{Series, nothing}
-use Rattle.wire.specs.SeriesLaws.{series_only, series_last, wire_none, wire_next, read_whole}
+use Rattle.wire.proofs.SeriesLaws.{series_only, series_last, wire_none, wire_next, read_whole}
 use Rattle.sending.specs.CallLaws.{In, here, there}
 use Rattle.end.specs.End.{End, give_of, finish_of, take_of, hear_answer, hear_of, clock_of, sent_of, tick_of, output_of}
 use Rattle.table.specs.Layout.{Sound}
@@ -22,8 +22,8 @@ use Rattle.end.specs.EndLaws as end
 use Rattle.network.specs.World.{Entry, Site, opened, handed, stray, gives, finishes, takes, Act, arrives, calls, ticks, noted, hear, bytes_of, hand_over, strange, arrive, call, leaving, tick, act, Choice, near_acts, far_acts, step, run}
 use Rattle.network.specs.Delivered.{numbers_of, acks_in, asks_in, Every, nil, cons, Welcome, Delivered}
 use Rattle.network.specs.Truth.{Numbered, Forth, Back, position, grant, sink, Pair}
-use Rattle.network.specs.RunLaws.{swap, entry_read, act_pair, run_pair}
-use Rattle.network.specs.Statement.{delivered_is_true}
+use Rattle.network.proofs.RunLaws.{swap, entry_read, act_pair, run_pair}
+use Rattle.network.proofs.Theorems.{delivered_is_true}
 use Rattle.lent.specs.Code.{Desk, held, count_of, after, after_give, after_finish, after_hear, after_take, after_tick, Handed, own, other, Does, Begins, opens, CodeRun, begin, near, far, number_in, ack_in, ask_in, numbers_among, acks_among, asks_among, CodeDelivered, CodeBothWays}
 use Rattle.lent.specs.Code.Does.{gives as gave, finishes as finished, hears as heard, takes as took, ticks as ticked}
 

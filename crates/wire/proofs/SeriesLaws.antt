@@ -4,8 +4,8 @@ use Rattle.std.proofs.Common.{sym, ap, ◌∙◌, append-nil, append_assoc, arit
 use Rattle.std.proofs.Math.ListN.{get_or-append}
 use Rattle.wire.specs.Datagram.{head_size, Message, encode, wire}
 use Rattle.wire.specs.Reading.{fields_of, read, decode}
-use Rattle.wire.specs.ReadingLaws.{num_same}
-use Rattle.wire.specs.RoundTripLaws.{decode_was}
+use Rattle.wire.proofs.ReadingLaws.{num_same}
+use Rattle.wire.proofs.RoundTripLaws.{decode_was}
 use Rattle.wire.specs.Series.{Series, nothing, first}
 
 -- the length field of the first datagram

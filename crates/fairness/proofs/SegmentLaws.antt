@@ -23,8 +23,8 @@ use Rattle.fairness.specs.TimedLaws.{twice, ready_at}
 use Rattle.fairness.specs.SideLaws.{Moves, moves_orderly, moves_acked, fills_position}
 use Rattle.fairness.specs.StateLaws.{ticks_at, orderly_at, acked_up, ready_next, position_at, position_up}
 use Rattle.fairness.specs.OldestLaws.{sends_one, Still, still, dropped, moves_still, Holds, oldest_timer}
-use Rattle.fairness.specs.TakenLaws.{pair_at, honest, sent_stays, in_time}
-use Rattle.fairness.specs.AnswerLaws.{data_reaches, answers, ack_said}
+use Rattle.fairness.proofs.TakenLaws.{pair_at, honest, sent_stays, in_time}
+use Rattle.fairness.proofs.AnswerLaws.{data_reaches, answers, ack_said}
 
 pub interval_some : (σ : Plan) (d : Side) (T : ℕ) → Going σ T → 1 ≤ interval_of d σ
 interval_some σ the_near T g = g.near

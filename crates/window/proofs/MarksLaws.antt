@@ -6,8 +6,8 @@ use Rattle.std.proofs.Math.Decide.{ℕ_discrete, dec_lt}
 use borrow.Author.Tests.{lt-ltb, le-ltb}
 use Rattle.laws.specs.Choice.{if}
 use Rattle.window.specs.Window.{width, Window, unseen, fresh, seen_of, verdict_of, slide, accept_of}
-use Rattle.window.specs.WindowLaws.{verdict_nought, verdict_above, verdict_old, verdict_new, verdict_again, new_is}
-use Rattle.window.specs.WindowLaws.{length_unseen, unseen_at, length_slide, slide_first, slide_none, slide_rest}
+use Rattle.window.proofs.WindowLaws.{verdict_nought, verdict_above, verdict_old, verdict_new, verdict_again, new_is}
+use Rattle.window.proofs.WindowLaws.{length_unseen, unseen_at, length_slide, slide_first, slide_none, slide_rest}
 use Rattle.window.specs.Marks.{mark, marks_from, window_of, Accepts}
 
 -- what the code's loop shows: p was accepted, by marks

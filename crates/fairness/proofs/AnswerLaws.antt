@@ -8,7 +8,7 @@ use Rattle.wire.specs.Datagram.{Message, DATA, ACK}
 use Rattle.receiving.specs.Receiving.{low_of, ack_position, ack_credit}
 use Rattle.receiving.specs.Receiving as receiving
 use Rattle.receiving.specs.AckLaws.{position_low, low_passes, position_passes}
-use Rattle.receiving.specs.ReceivingLaws.{grant_true}
+use Rattle.receiving.proofs.ReceivingLaws.{grant_true}
 use Rattle.sending.specs.Steps.{send_of}
 use Rattle.sending.specs.True.{True, data_true, probe_true, Each, each_none, each_more}
 use Rattle.sending.specs.TrueLaws.{send_true}
@@ -17,13 +17,13 @@ use Rattle.end.specs.End.{End, allowance_of, ack_of, sent_of}
 use Rattle.network.specs.World.{Entry, leaving}
 use Rattle.network.specs.Truth.{Source, Sink, Forth, forth, Flow}
 use Rattle.sending.specs.NetworkLaws.{data_below}
-use Rattle.receiving.specs.NetworkLaws.{past_end}
+use Rattle.receiving.proofs.NetworkLaws.{past_end}
 use Rattle.fairness.specs.Timed.{Plan, Side, end_at}
 use Rattle.fairness.specs.Networks.{is_ack, sent_in, sends, Going}
 use Rattle.fairness.specs.TimedLaws.{ready_at}
 use Rattle.fairness.specs.StateLaws.{work, sent_is, sent_in_lem, ticks_at, allowed_at}
 use Rattle.fairness.specs.OldestLaws.{in_right, sends_it}
-use Rattle.fairness.specs.TakenLaws.{ready_pair}
+use Rattle.fairness.proofs.TakenLaws.{ready_pair}
 
 -- A SEGMENT from acked on: when it is heard, all below its end has arrived
 pub data_reaches : {a : Source} {b : Sink} → Flow a b → (p : ℕ) (bs : List ℕ) (e : ℕ) → Forth a.given a.finished a.side.limit a.side.next (DATA p bs e) → p ≤ a.side.acked

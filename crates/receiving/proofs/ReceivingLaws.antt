@@ -16,7 +16,7 @@ use Rattle.receiving.specs.ReadLaws.{end_at_small}
 use Rattle.receiving.specs.RefusalLaws.{beyond_none, beyond_within, unknown_after, unknown_none, known_there, known_none}
 use Rattle.receiving.specs.AckLaws.{taken_low, size_take, low_room, got_length, taken_take, end_take, ack_says}
 use Rattle.receiving.specs.Truth.{Fits, Ends, unknown, known, ReceivingOK}
-use Rattle.receiving.specs.TruthLaws.{says_below, says_length, says_whole, fits_start, fits_grow, fits_fill, fits_taken, says_heads, fits_lead, fits_reach}
+use Rattle.receiving.proofs.TruthLaws.{says_below, says_length, says_whole, fits_start, fits_grow, fits_fill, fits_taken, says_heads, fits_lead, fits_reach}
 
 -- a fresh end, whatever its peer was given
 pub receiving_start : (H : List ℕ) (closed : ℕ) → ReceivingOK H [] closed fresh

@@ -1,0 +1,4 @@
+-- What is proved of the definitions.
+pub mod RunLaws
+pub mod Theorems
+pub mod Samples
