@@ -4,5 +4,6 @@ pub mod AnswerLaws
 pub mod SegmentLaws
 pub mod CreditLaws
 pub mod EdgeLaws
+pub mod TooOldLaws
 pub mod AllLaws
 pub mod Theorems
