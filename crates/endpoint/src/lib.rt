@@ -11,8 +11,7 @@ use ring::CAPACITY;
 use table::{ready, scalars_in};
 
 // open epoch, R: a fresh end. The table is written in every word that an end relies on, and the marks are cleared.
-#[unsafe(no_mangle)]
-pub extern "C" fn sluice_open(
+pub fn sluice_open(
     table: &mut [u64],
     outgoing: &[u8],
     incoming: &[u8],
@@ -37,8 +36,7 @@ pub extern "C" fn sluice_open(
 }
 
 // give bytes: takes as many of them, from the first on, as there is room for, and answers how many.
-#[unsafe(no_mangle)]
-pub extern "C" fn sluice_give(table: &mut [u64], outgoing: &mut [u8], bytes: &[u8]) -> i64
+pub fn sluice_give(table: &mut [u64], outgoing: &mut [u8], bytes: &[u8]) -> i64
     ensures { Gives table.old outgoing.old bytes.now result table.new outgoing.new }
 {
     let no = ready(table, outgoing.len(), CAPACITY);
@@ -49,8 +47,7 @@ pub extern "C" fn sluice_give(table: &mut [u64], outgoing: &mut [u8], bytes: &[u
 }
 
 // finish: no more bytes will be given.
-#[unsafe(no_mangle)]
-pub extern "C" fn sluice_finish(table: &mut [u64]) -> i64
+pub fn sluice_finish(table: &mut [u64]) -> i64
     ensures { Finishes table.old result table.new }
 {
     let no = ready(table, CAPACITY, CAPACITY);
@@ -62,8 +59,7 @@ pub extern "C" fn sluice_finish(table: &mut [u64]) -> i64
 }
 
 // take: hands up as many of the bytes that are next as out has room for, and answers how many; *ended is 1 where the END has been reached.
-#[unsafe(no_mangle)]
-pub extern "C" fn sluice_take(
+pub fn sluice_take(
     table: &mut [u64],
     incoming: &[u8],
     out: &mut [u8],
@@ -82,8 +78,7 @@ pub extern "C" fn sluice_take(
 }
 
 // datagram bytes: one datagram from the network, of any length. Answers 0, or minus the number of its refusal.
-#[unsafe(no_mangle)]
-pub extern "C" fn sluice_datagram(
+pub fn sluice_datagram(
     table: &mut [u64],
     incoming: &mut [u8],
     marks: &mut [u8],
@@ -104,8 +99,7 @@ pub extern "C" fn sluice_datagram(
 }
 
 // tick: the clock moves on by one. Writes the datagrams to be sent now into out, one after the other, and answers their bytes in all.
-#[unsafe(no_mangle)]
-pub extern "C" fn sluice_tick(table: &mut [u64], outgoing: &[u8], out: &mut [u8]) -> i64
+pub fn sluice_tick(table: &mut [u64], outgoing: &[u8], out: &mut [u8]) -> i64
     ensures { Ticks table.old outgoing.now out.old result table.new out.new }
 {
     let no = ready(table, outgoing.len(), CAPACITY);
