@@ -11,7 +11,7 @@ fn main() {
     println!("cargo::rustc-env=SLUICE_TABLE_WORDS={}", table_words(&header));
 }
 
-/// Links libendpoint.a from SLUICESTREAM_LIB_DIR, or from where `rt staticlib endpoint` writes it.
+/// Links libendpoint.a from SLUICESTREAM_LIB_DIR, or from where `tools/library` writes it.
 fn link(repository: &Path) {
     println!("cargo::rerun-if-env-changed=SLUICESTREAM_LIB_DIR");
     let folder = match env::var_os("SLUICESTREAM_LIB_DIR") {
@@ -26,7 +26,7 @@ fn link(repository: &Path) {
     let archive = folder.join("libendpoint.a");
     println!("cargo::rerun-if-changed={}", archive.display());
     if !archive.is_file() {
-        stop(&format!("{} is missing: run `rt staticlib endpoint` in the repository first", archive.display()));
+        stop(&format!("{} is missing: run `tools/library` in the repository first", archive.display()));
     }
     println!("cargo::rustc-link-search=native={}", folder.display());
     println!("cargo::rustc-link-lib=static=endpoint");
