@@ -1,12 +1,5 @@
 -- Laws of the steps, by position: none, one more, joined. Assumes nothing.
-use mathlib.Core.Path.{◌≡◌, refl, sym, ◌∙◌}
-use mathlib.Core.Logic.{⊎_elim}
-use mathlib.Core.List.{List}
-use Prim.Native.Nat.{ℕ, ◌+◌, ◌-◌, ◌≤◌, ◌<◌, ◌%◌, min, max}
-use native.Mathlib.Omega.{arith}
-use native.Mathlib.Nat.{le_antisymm}
-use lib.ListN.{length, get_or, set, length-set, drop, length-drop, take, length-take}
-use lib.Seq.{get_or-set_same, get_or-set_other, get_or-drop, get_or-take}
+use Rattle.std.proofs.Common.{◌≡◌, ◌∙◌, refl, List, length, set, drop, take, sym, arith, length-set, length-drop, length-take, ⊎_elim, ℕ, ◌+◌, ◌-◌, ◌≤◌, ◌<◌, ◌%◌, min, max, le_antisymm, get_or, get_or-set_same, get_or-set_other, get_or-drop, get_or-take}
 use Rattle.ring.specs.Ring as ring
 use Rattle.ring.specs.Ring.{capacity}
 use Rattle.marks.specs.Stretches.{Put, Marked}

@@ -1,11 +1,6 @@
 -- Laws of a search for the first byte that is not v. Assumes nothing.
-use mathlib.Core.Path.{◌≡◌}
-use mathlib.Core.Logic.{⊎_elim}
-use mathlib.Core.List.{List}
-use Prim.Native.Nat.{ℕ, ◌+◌, ◌-◌, ◌≤◌, ◌<◌}
-use native.Mathlib.Omega.{arith}
-use lib.Bits.{bit_or, bit_xor, or_add_and, xor_add_and, and_le_l, and_le_r}
-use lib.ListN.{get_or}
+use Rattle.std.proofs.Common.{◌≡◌, ⊎_elim, List, ℕ, ◌+◌, ◌-◌, ◌≤◌, ◌<◌, arith, get_or}
+use Rattle.std.specs.Int.Bits.{bit_or, bit_xor, or_add_and, xor_add_and, and_le_l, and_le_r}
 use Rattle.laws.specs.Split.{split}
 use Rattle.copies.specs.Search.{Other}
 

@@ -1,5 +1,5 @@
 -- 03 §3: the three rows of the table, computed.
-use Rattle.std.specs.Prelude.{◌≡◌, refl}
+use Rattle.std.proofs.Common.{◌≡◌, refl}
 use Rattle.counting.specs.Bounds.{hand_ticks, drop_ticks}
 
 row_1_hand : hand_ticks 1 4 10 ≡ 14

@@ -1,6 +1,5 @@
 -- 03 §3: the two bounds, from fairness and turns alone. Assumes nothing.
-use Rattle.std.specs.Prelude.{◌≡◌, ℕ, zero, suc, ◌+◌, ◌*◌, ◌≤◌, ◌<◌}
-use Rattle.std.proofs.Common.{sym, subst, arith}
+use Rattle.std.proofs.Common.{◌≡◌, ℕ, zero, suc, ◌+◌, ◌*◌, ◌≤◌, ◌<◌, sym, subst, arith}
 use Rattle.std.proofs.Math.Decide.{dec_le}
 use Rattle.counting.specs.Count.{count, Fair}
 use Rattle.counting.specs.CountLaws.{count_add, one, many, fair_row}

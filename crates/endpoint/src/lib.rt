@@ -59,12 +59,7 @@ pub fn sluice_finish(table: &mut [u64]) -> i64
 }
 
 // take: hands up as many of the bytes that are next as out has room for, and answers how many; *ended is 1 where the END has been reached.
-pub fn sluice_take(
-    table: &mut [u64],
-    incoming: &[u8],
-    out: &mut [u8],
-    ended: &mut u8,
-) -> i64
+pub fn sluice_take(table: &mut [u64], incoming: &[u8], out: &mut [u8], ended: &mut u8) -> i64
     ensures { Takes table.old incoming.now out.old ended.old result table.new out.new ended.new }
 {
     let no = ready(table, incoming.len(), CAPACITY);

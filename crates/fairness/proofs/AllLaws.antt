@@ -1,6 +1,5 @@
 -- All is given at the start: one segment after the other is the oldest, until nothing is left. Assumes nothing.
-use Rattle.std.specs.Prelude.{◌≡◌, refl, List, [], ◌∷◌, ℕ, zero, suc, ◌+◌, ◌^◌, ◌≤◌, ◌<◌, length}
-use Rattle.std.proofs.Common.{ap, sym, ◌∙◌, arith, length-take}
+use Rattle.std.proofs.Common.{◌≡◌, refl, List, [], ◌∷◌, ℕ, zero, suc, ◌+◌, ◌^◌, ◌≤◌, ◌<◌, length, ap, sym, ◌∙◌, arith, length-take}
 use Rattle.std.proofs.Math.Decide.{dec_lt}
 use Rattle.ring.specs.Ring.{capacity}
 use Rattle.wire.specs.Datagram.{payload_most}

@@ -1,6 +1,5 @@
 -- What an accepted datagram does: a segment from acked on is in hand, each DATA and PROBE is answered in its tick, and an ACK is what its end would say. Assumes nothing.
-use Rattle.std.specs.Prelude.{◌≡◌, refl, true, ◌&&◌, List, [], ◌∷◌, ◌++◌, ℕ, zero, suc, ◌+◌, ◌^◌, ◌≤◌, ◌<◌, eqb, ltb, length}
-use Rattle.std.proofs.Common.{⊎_elim, arith, length-take, eq-eqb, lt-ltb}
+use Rattle.std.proofs.Common.{◌≡◌, refl, true, ◌&&◌, List, [], ◌∷◌, ◌++◌, ℕ, zero, suc, ◌+◌, ◌^◌, ◌≤◌, ◌<◌, eqb, ltb, length, ⊎_elim, arith, length-take, eq-eqb, lt-ltb}
 use Rattle.laws.specs.Choice.{if_case}
 use Rattle.laws.specs.Split.{split}
 use Rattle.ring.specs.Ring.{capacity}

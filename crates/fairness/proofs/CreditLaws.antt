@@ -1,6 +1,5 @@
 -- An end that has bytes waiting, nothing kept and no room goes by turns too: PROBEs, and ACKs that bring room. Assumes nothing.
-use Rattle.std.specs.Prelude.{◌≡◌, refl, true, [], ℕ, suc, ◌+◌, ◌-◌, ◌^◌, ◌≤◌, ◌<◌}
-use Rattle.std.proofs.Common.{ap, ◌∙◌, arith, length-take}
+use Rattle.std.proofs.Common.{◌≡◌, refl, true, [], ℕ, suc, ◌+◌, ◌-◌, ◌^◌, ◌≤◌, ◌<◌, ap, ◌∙◌, arith, length-take}
 use Rattle.std.proofs.Math.Decide.{dec_le, dec_lt}
 use Rattle.ring.specs.Ring.{capacity}
 use Rattle.wire.specs.Datagram.{Message, PROBE}

@@ -1,6 +1,5 @@
 -- 03 §2: how far behind the highest number a datagram comes.
-use Rattle.std.specs.Prelude.{◌≡◌, ℕ, ◌+◌, ◌-◌, ◌*◌, ◌^◌, ◌≤◌, ◌<◌, List}
-use Rattle.std.proofs.Common.{arith}
+use Rattle.std.proofs.Common.{◌≡◌, ℕ, ◌+◌, ◌-◌, ◌*◌, ◌^◌, ◌≤◌, ◌<◌, List, arith}
 use Rattle.sending.specs.CallLaws.{In}
 use Rattle.network.specs.World.{Entry, Arrival}
 use Rattle.fairness.specs.Timed.{Plan, Side, other, site_at, end_at}

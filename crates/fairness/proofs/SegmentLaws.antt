@@ -1,6 +1,5 @@
 -- A segment that is the oldest kept goes by turns. Assumes nothing.
-use Rattle.std.specs.Prelude.{◌≡◌, true, ℕ, suc, ◌+◌, ◌^◌, ◌≤◌, ◌<◌, eqb, length}
-use Rattle.std.proofs.Common.{◌∙◌, arith, eqb-true}
+use Rattle.std.proofs.Common.{◌≡◌, true, ℕ, suc, ◌+◌, ◌^◌, ◌≤◌, ◌<◌, eqb, length, ◌∙◌, arith, eqb-true}
 use Rattle.std.proofs.Math.Decide.{dec_le}
 use Rattle.wire.specs.Datagram.{Message, DATA, ACK, PROBE}
 use Rattle.receiving.specs.Receiving.{ack_position, ack_credit}

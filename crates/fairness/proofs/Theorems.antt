@@ -1,7 +1,6 @@
 -- 03 §3, statement C: it arrives in time. Of every run in the document's order, both ways round, with whatever network that is (L, D)-fair in its first T ticks. Assumes nothing.
 -- `end_at σ d t` is end d when t ticks are over; `other d` is its peer.
-use Rattle.std.specs.Prelude.{◌≡◌, refl, ℕ, zero, suc, ◌+◌, ◌*◌, ◌≤◌, ◌<◌}
-use Rattle.std.proofs.Common.{◌∙◌, arith}
+use Rattle.std.proofs.Common.{◌≡◌, refl, ℕ, zero, suc, ◌+◌, ◌*◌, ◌≤◌, ◌<◌, ◌∙◌, arith}
 use Rattle.wire.specs.Datagram.{payload_most}
 use Rattle.receiving.specs.Receiving.{ack_position}
 use Rattle.sending.specs.Sending.{Segment}

@@ -1,7 +1,6 @@
 -- 03 §2: why D stops at 32.
-use Rattle.std.specs.Prelude.{◌≡◌, ℕ, ◌+◌, ◌^◌, ◌≤◌, ◌<◌, List}
+use Rattle.std.proofs.Common.{◌≡◌, ℕ, ◌+◌, ◌^◌, ◌≤◌, ◌<◌, List, arith}
 use Rattle.std.proofs.Math.Decide.{ℕ_discrete, dec_lt}
-use Rattle.std.proofs.Common.{arith}
 use Rattle.window.specs.Window.{width, Window, seen_of, verdict_of}
 use Rattle.window.proofs.WindowLaws.{verdict_above, verdict_new, verdict_again}
 use Rattle.sending.specs.CallLaws.{In}

@@ -1,13 +1,5 @@
 -- What hear makes of the lent buffers, from its steps. Assumes nothing.
-use mathlib.Core.Path.{◌≡◌, refl, sym, ◌∙◌, ap}
-use mathlib.Core.Logic.{⊎_elim}
-use mathlib.Core.List.{List}
-use Prim.Native.Nat.{ℕ, ◌+◌, ◌≤◌, ◌<◌}
-use native.Mathlib.Omega.{arith}
-use lib.ListN.{length}
-use lib.Dec.{eqb}
-use mathlib.Core.Bool.{true, false}
-use borrow.Author.Tests.{eq-eqb, ne_eqb, eqb-true}
+use Rattle.std.proofs.Common.{◌≡◌, ◌∙◌, refl, List, length, eqb, true, false, sym, ap, arith, ⊎_elim, ℕ, ◌+◌, ◌≤◌, ◌<◌, eq-eqb, ne_eqb, eqb-true}
 use Rattle.ring.specs.Ring.{capacity}
 use Rattle.receiving.specs.Receiving.{Receiving, at, hear_of, end_of, arrived, arrived_of, Ranged, Sound, receiving_of}
 use Rattle.arrivals.specs.Marks.{of, mark}

@@ -1,11 +1,5 @@
 -- Laws of what is found, by position: none, one more, joined; and by whole bytes. Nothing here knows how a mark is kept. Assumes nothing.
-use mathlib.Core.Path.{◌≡◌, sym, ◌∙◌}
-use mathlib.Core.Logic.{⊎_elim}
-use mathlib.Core.List.{List}
-use Prim.Native.Nat.{ℕ, ◌+◌, ◌-◌, ◌*◌, ◌/◌, ◌%◌, ◌≤◌, ◌<◌}
-use native.Mathlib.Omega.{arith}
-use lib.ListN.{length, get_or, take, drop, length-take, length-drop}
-use lib.Seq.{get_or-take, get_or-drop}
+use Rattle.std.proofs.Common.{◌≡◌, ◌∙◌, sym, arith, length-take, length-drop, ⊎_elim, List, length, take, drop, ℕ, ◌+◌, ◌-◌, ◌*◌, ◌/◌, ◌%◌, ◌≤◌, ◌<◌, get_or, get_or-take, get_or-drop}
 use Rattle.laws.specs.Split.{split}
 use Rattle.copies.specs.Search.{Other}
 use Rattle.ring.specs.Ring.{capacity}

@@ -1,7 +1,5 @@
 -- Laws of a datagram's judgement and of what is noted of it, over the sections of the table. Assumes nothing.
-use Rattle.std.specs.Prelude.{◌≡◌, refl, List, ℕ, ◌+◌, ◌-◌, ◌*◌, ◌≤◌, ◌<◌, length, take, drop}
-use Rattle.std.proofs.Math.Path.{sym}
-use Rattle.std.proofs.Common.{ap, ◌∙◌, arith, length-drop, take_all}
+use Rattle.std.proofs.Common.{◌≡◌, refl, List, ℕ, ◌+◌, ◌-◌, ◌*◌, ◌≤◌, ◌<◌, length, take, drop, sym, ap, ◌∙◌, arith, length-drop, take_all}
 use borrow.Rule.Slice.PartMut.{put_mid}
 use Rattle.laws.specs.RowsLaws.{hit_ne, miss_ne, hit_row, miss_row, then_eq, else_eq, row_left, row_right, passed_ne, passed_lt}
 use Rattle.laws.specs.Part.{part}

@@ -1,10 +1,5 @@
 -- What slow, leap and follow make of the lent buffers. Assumes nothing.
-use mathlib.Core.Path.{◌≡◌, refl, sym, ◌∙◌, ap}
-use mathlib.Core.Logic.{⊎_elim}
-use mathlib.Core.List.{List}
-use Prim.Native.Nat.{ℕ, ◌+◌, ◌≤◌, ◌<◌, max}
-use native.Mathlib.Omega.{arith}
-use lib.ListN.{length}
+use Rattle.std.proofs.Common.{◌≡◌, ◌∙◌, refl, List, length, sym, ap, arith, ⊎_elim, ℕ, ◌+◌, ◌≤◌, ◌<◌, max}
 use Rattle.ring.specs.Ring.{capacity}
 use Rattle.receiving.specs.Receiving.{Cell, fill_cells, arrived, arrived_of, Ranged, Clear, Sound}
 use Rattle.arrivals.specs.Marks.{of, mark}

@@ -1,10 +1,5 @@
 -- Laws of stretches, by position: none, one more, joined. Nothing here knows how a mark is kept. Assumes nothing.
-use mathlib.Core.Path.{◌≡◌, refl, ◌∙◌}
-use mathlib.Core.Logic.{⊎_elim}
-use mathlib.Core.List.{List}
-use Prim.Native.Nat.{ℕ, ◌+◌, ◌-◌, ◌%◌, ◌≤◌, ◌<◌}
-use native.Mathlib.Omega.{arith}
-use native.Mathlib.Nat.{le_antisymm}
+use Rattle.std.proofs.Common.{◌≡◌, ◌∙◌, refl, List, ⊎_elim, ℕ, ◌+◌, ◌-◌, ◌%◌, ◌≤◌, ◌<◌, arith, le_antisymm}
 use Rattle.laws.specs.Split.{split}
 use Rattle.ring.specs.Ring.{capacity}
 use Rattle.marks.specs.Stretches.{Put, Marked, Up}

@@ -1,6 +1,5 @@
 -- Both ends and both directions, choice by choice, and what is delivered is true. Assumes nothing.
-use Rattle.std.specs.Prelude.{◌≡◌, refl, true, false, not, List, [], ◌∷◌, ◌++◌, ℕ, zero, suc, ◌+◌, ◌-◌, ◌^◌, ◌≤◌, ◌<◌, eqb, length}
-use Rattle.std.proofs.Common.{sym, ◌∙◌, arith, eq-eqb}
+use Rattle.std.proofs.Common.{◌≡◌, refl, true, false, not, List, [], ◌∷◌, ◌++◌, ℕ, zero, suc, ◌+◌, ◌-◌, ◌^◌, ◌≤◌, ◌<◌, eqb, length, sym, ◌∙◌, arith, eq-eqb}
 use Rattle.laws.specs.Choice.{if_case}
 use Rattle.wire.specs.Datagram.{Message, DATA, ACK, PROBE, Sendable}
 use Rattle.wire.specs.Reading.{Decoded, read, decode}

@@ -1,5 +1,5 @@
 -- 03 §1: a run, computed: the network loses, repeats, reorders and digs out an old epoch, and the bytes and the END still come over.
-use Rattle.std.specs.Prelude.{◌≡◌, refl, List, [], ◌∷◌, ℕ, length}
+use Rattle.std.proofs.Common.{◌≡◌, refl, List, [], ◌∷◌, ℕ, length}
 use Rattle.wire.specs.Datagram.{DATA, encode}
 use Rattle.network.specs.World.{World, handed, stray, gives, finishes, takes, arrives, calls, ticks, Choice, near_acts, far_acts, run}
 use Rattle.network.specs.Computing.{computing}

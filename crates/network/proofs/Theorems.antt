@@ -1,12 +1,6 @@
 -- Statement B: what is delivered is true, after every run, both ways. Assumes nothing.
-use Rattle.std.specs.Prelude.{◌≡◌, drop}
-use Rattle.std.proofs.Common.{sym, ◌∙◌, arith, length-append, take-append-drop, take_all}
-use Rattle.std.proofs.Math.Path.{ap}
-use Rattle.std.proofs.Math.Logic.{⊎_elim}
-use mathlib.Core.List.{List, [], ◌++◌, append-nil}
-use Prim.Native.Nat.{ℕ, ◌-◌, ◌^◌, ◌<◌}
+use Rattle.std.proofs.Common.{◌≡◌, drop, sym, ◌∙◌, arith, length-append, take-append-drop, take_all, ap, ⊎_elim, List, [], ◌++◌, append-nil, ℕ, ◌-◌, ◌^◌, ◌<◌, length, take, length-take}
 use Rattle.std.proofs.Math.Decide.{ℕ_discrete, dec_lt}
-use Rattle.std.proofs.Math.ListN.{length, take, length-take}
 use Rattle.std.proofs.Math.Seq.{take-append-le}
 use Rattle.laws.specs.Split.{split}
 use Rattle.laws.specs.History.{Says, Prefix}

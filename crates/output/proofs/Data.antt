@@ -1,9 +1,5 @@
 -- One datagram, written at its place. Assumes nothing.
-use mathlib.Core.Path.{◌≡◌, sym, ◌∙◌}
-use mathlib.Core.List.{List, [], ◌++◌, append-nil}
-use Prim.Native.Nat.{ℕ, ◌+◌}
-use native.Mathlib.Omega.{arith}
-use lib.ListN.{length}
+use Rattle.std.proofs.Common.{◌≡◌, ◌∙◌, sym, arith, List, [], ◌++◌, append-nil, ℕ, ◌+◌, length}
 use borrow.Rule.Slice.PartMut.{put_mid}
 use Rattle.ring.specs.Ring.{span}
 use Rattle.ring.specs.SpanLaws.{span_length}

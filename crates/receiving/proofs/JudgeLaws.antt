@@ -1,7 +1,5 @@
 -- What beyond, misplaced, end_at and judge answer at each return, in the code's words. Assumes nothing.
-use mathlib.Core.Path.{◌≡◌, sym, ◌∙◌}
-use Prim.Native.Nat.{ℕ, ◌+◌, ◌-◌, ◌≤◌, ◌<◌}
-use native.Mathlib.Omega.{arith}
+use Rattle.std.proofs.Common.{◌≡◌, ◌∙◌, sym, arith, ℕ, ◌+◌, ◌-◌, ◌≤◌, ◌<◌, eq-eqb, ne_eqb}
 use Rattle.laws.specs.RowsLaws.{hit_row, miss_row}
 use Rattle.wire.specs.Datagram.{ceiling}
 use Rattle.ring.specs.Ring.{capacity}
@@ -11,7 +9,6 @@ use Rattle.receiving.specs.ReadLaws.{end_none, end_some}
 use Rattle.receiving.specs.declared.Scalars.{Scalars}
 use Rattle.receiving.specs.RefusalLaws.{beyond_ceiling, beyond_within, beyond_zero, unknown_before, unknown_after, unknown_none, known_after, known_elsewhere, known_there, known_none}
 use Rattle.receiving.specs.Receiving.{end_at}
-use borrow.Author.Tests.{eq-eqb, ne_eqb}
 
 -- 8
 pub beyond_far : (taken p n : ℕ) → (n ≡ 0 → ⊥) → ceiling < p → 8 ≡ beyond_of taken p n

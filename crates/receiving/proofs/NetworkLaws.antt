@@ -1,6 +1,5 @@
 -- An ACK's position beyond the lowest missing one: then every byte and the END have arrived. Assumes nothing.
-use Rattle.std.specs.Prelude.{◌≡◌, List, ℕ, ◌+◌, ◌<◌, length}
-use Rattle.std.proofs.Common.{arith}
+use Rattle.std.proofs.Common.{◌≡◌, List, ℕ, ◌+◌, ◌<◌, length, arith}
 use Rattle.receiving.specs.Receiving.{Receiving, low_of, end_at, ack_position}
 use Rattle.receiving.specs.Truth.{ReceivingOK}
 use Rattle.receiving.specs.ReadLaws.{end_at_small}

@@ -1,6 +1,5 @@
 -- Statement B's steps for the receiving side, call by call, and why an honest peer's DATA is never refused. Assumes nothing.
-use Rattle.std.specs.Prelude.{ℕ, ◌+◌, ◌≤◌, ◌<◌, ◌≡◌, refl, List, [], ◌++◌, length, eqb}
-use Rattle.std.proofs.Common.{ap, sym, ◌∙◌, ⊎_elim, arith, length-append, eqb-true}
+use Rattle.std.proofs.Common.{ℕ, ◌+◌, ◌≤◌, ◌<◌, ◌≡◌, refl, List, [], ◌++◌, length, eqb, ap, sym, ◌∙◌, ⊎_elim, arith, length-append, eqb-true}
 use Rattle.std.proofs.lemmas.List.{length-replicate}
 use Rattle.laws.specs.Choice.{if_case}
 use Rattle.laws.specs.RowsLaws.{miss_row}

@@ -1,5 +1,5 @@
 -- The definitions, computed: what arrives, what an ACK says, what is refused, and when the END is reported.
-use Rattle.std.specs.Prelude.{◌≡◌, refl, [], ◌∷◌, replicate}
+use Rattle.std.proofs.Common.{◌≡◌, refl, [], ◌∷◌, replicate}
 use Rattle.laws.specs.Rows.{when, ◌or_else◌, branch}
 use Rattle.receiving.specs.Receiving.{missing, byte, none, Receiving, first, lay, fill_cells, fill_of, hear_of, lead, low_of, up, reach, high_of, heads, take_of}
 use Rattle.receiving.specs.Receiving.{end_at, ended_of, ack_position, ack_credit, beyond_of, misplaced_of, refusal_by, refusal_of}

@@ -1,6 +1,5 @@
 -- Laws of bytes and cells that are true of a history. Assumes nothing.
-use Rattle.std.specs.Prelude.{ℕ, zero, suc, ◌+◌, ◌-◌, ◌≤◌, ◌<◌, ◌≡◌, refl, List, [], ◌∷◌, ◌++◌, length, take, drop, replicate}
-use Rattle.std.proofs.Common.{ap, sym, ◌∙◌, ⊎_elim, append-nil, arith, add-zero, length-append}
+use Rattle.std.proofs.Common.{ℕ, zero, suc, ◌+◌, ◌-◌, ◌≤◌, ◌<◌, ◌≡◌, refl, List, [], ◌∷◌, ◌++◌, length, take, drop, replicate, ap, sym, ◌∙◌, ⊎_elim, append-nil, arith, add-zero, length-append}
 use Rattle.laws.specs.History.{At, Says, Prefix}
 use Rattle.laws.specs.History.At.{here, there}
 use Rattle.laws.specs.History.Says.{none, more}

@@ -1,11 +1,5 @@
 -- Two replaced parts are a write into a ring. Assumes nothing.
-use mathlib.Core.Path.{◌≡◌, refl, sym, ap, ◌∙◌}
-use mathlib.Core.Logic.{⊎_elim}
-use mathlib.Core.List.{List}
-use Prim.Native.Nat.{ℕ, ◌+◌, ◌-◌, ◌%◌, ◌≤◌, ◌<◌, min, zero-le}
-use native.Mathlib.Omega.{arith}
-use lib.ListN.{length, take, drop, get_or, length-take, length-drop}
-use lib.Seq.{get_or-take, get_or-drop}
+use Rattle.std.proofs.Common.{◌≡◌, ◌∙◌, refl, List, length, take, drop, sym, ap, arith, length-take, length-drop, ⊎_elim, ℕ, ◌+◌, ◌-◌, ◌%◌, ◌≤◌, ◌<◌, min, zero-le, get_or, get_or-take, get_or-drop}
 use borrow.Rule.Slice.PartMut.{put_mid, same_len_mid}
 use Rattle.laws.specs.PartLaws.{in_part, before_part, after_part}
 use Rattle.laws.specs.Split.{split}

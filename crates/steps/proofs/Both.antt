@@ -1,9 +1,5 @@
 -- Step 2, and then step 3. Assumes nothing.
-use mathlib.Core.Path.{◌≡◌, refl, ◌∙◌}
-use mathlib.Core.List.{List, [], ◌++◌}
-use Prim.Native.Nat.{ℕ, ◌+◌, ◌-◌, ◌≤◌}
-use native.Mathlib.Omega.{arith}
-use lib.ListN.{length, take, drop, length-append}
+use Rattle.std.proofs.Common.{◌≡◌, ◌∙◌, refl, length, take, drop, List, [], ◌++◌, ℕ, ◌+◌, ◌-◌, ◌≤◌, arith, length-append}
 use borrow.Rule.Slice.PartMut.{put_mid}
 use Rattle.wire.specs.Datagram.{wire}
 use Rattle.segments.specs.declared.Tick.{Tick}

@@ -1,10 +1,5 @@
 -- The loop of cut: what it has done after n datagrams is what the definition does in n turns. Assumes nothing.
-use mathlib.Core.Path.{◌≡◌, refl, sym, ap, ◌∙◌}
-use mathlib.Core.List.{List, [], ◌++◌}
-use Prim.Native.Nat.{ℕ, suc, ◌+◌, ◌*◌, ◌%◌, ◌≤◌, ◌<◌}
-use native.Mathlib.Numerals.{add-one}
-use native.Mathlib.Omega.{arith}
-use lib.ListN.{length, set, length-set, length-append}
+use Rattle.std.proofs.Common.{◌≡◌, ◌∙◌, refl, length, set, sym, ap, add-one, arith, length-set, length-append, List, [], ◌++◌, ℕ, suc, ◌+◌, ◌*◌, ◌%◌, ◌≤◌, ◌<◌}
 use Rattle.laws.specs.Over.{Over}
 use Rattle.laws.specs.OverLaws.{over_none, over_more, over_length}
 use Rattle.ring.specs.Ring.{span}

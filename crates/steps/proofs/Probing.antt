@@ -1,13 +1,5 @@
 -- Step 4, after steps 2 and 3. Assumes nothing.
-use mathlib.Core.Path.{◌≡◌, refl, sym, ap, ◌∙◌}
-use mathlib.Core.Bool.{Bool, true, false, ◌&&◌}
-use mathlib.Core.List.{List, ◌++◌}
-use Prim.Native.Nat.{ℕ, suc, ◌+◌, ◌<◌}
-use native.Mathlib.Numerals.{add-one}
-use native.Mathlib.Omega.{arith}
-use lib.Dec.{eqb, leb, ltb}
-use lib.ListN.{length, length-append}
-use borrow.Author.Tests.{ltb-true}
+use Rattle.std.proofs.Common.{◌≡◌, refl, ap, ◌∙◌, sym, arith, ltb-true, Bool, true, false, eqb, leb, ltb, ◌&&◌, List, ◌++◌, ℕ, suc, ◌+◌, ◌<◌, add-one, length, length-append}
 use Rattle.laws.specs.Over.{Over}
 use Rattle.laws.specs.OverLaws.{over_more}
 use Rattle.wire.specs.Datagram.{PROBE, encode, wire}

@@ -1,11 +1,7 @@
 -- What start and take make of the lent buffers. Assumes nothing.
-use mathlib.Core.Path.{◌≡◌, refl, sym, ◌∙◌, ap}
-use mathlib.Core.Logic.{⊎_elim}
-use mathlib.Core.List.{List, ◌++◌}
-use Prim.Native.Nat.{ℕ, ◌+◌, ◌-◌, ◌≤◌, ◌<◌, min}
-use native.Mathlib.Omega.{arith}
-use lib.ListN.{length, get_or, drop, replicate, length-append, length-drop, length-replicate, get_or-replicate, get_or-append, get_or-eq_default}
-use lib.Seq.{ext_get_or, get_or-drop}
+use Rattle.std.proofs.Common.{◌≡◌, sym, ◌∙◌, ap, refl, drop, replicate, ⊎_elim, List, ◌++◌, ℕ, ◌+◌, ◌-◌, ◌≤◌, ◌<◌, min, arith, length-append, length-drop, length, get_or, ext_get_or, get_or-drop}
+use Rattle.std.proofs.Math.ListN.{get_or-replicate, get_or-append, get_or-eq_default}
+use Rattle.std.proofs.lemmas.List.{length-replicate}
 use borrow.Rule.Slice.PartMut.{put_mid}
 use Rattle.laws.specs.Over.{Over}
 use Rattle.laws.specs.OverLaws.{over_none, over_more, over_length}

@@ -1,8 +1,7 @@
 -- What section 4 is for: a number that was accepted once is never new again, and one of the window that was not is new. Assumes nothing.
-use Rattle.std.specs.Prelude.{◌≡◌, refl, ℕ, ◌+◌, ◌-◌, ◌≤◌, ◌<◌, length}
-use Rattle.std.proofs.Common.{◌∙◌, ⊎_elim, arith}
+use Rattle.std.proofs.Common.{◌≡◌, refl, ℕ, ◌+◌, ◌-◌, ◌≤◌, ◌<◌, length, ◌∙◌, ⊎_elim, arith, List, [], ◌∷◌}
 use mathlib.Core.List.Memᴰ
-use mathlib.Core.List.{List, [], ◌∷◌, Memᴰ}
+use mathlib.Core.List.{Memᴰ}
 use Rattle.std.proofs.Math.Decide.{ℕ_discrete, dec_le}
 use Rattle.window.specs.Window.{width, Window, fresh, seen_of, verdict_of, accept_of}
 use Rattle.window.proofs.WindowLaws.{length_unseen, unseen_at, new_is, is_new, Accepted, accept_accepted}

@@ -1,12 +1,7 @@
 -- A word that has one bit changed puts one mark. Assumes nothing.
-use mathlib.Core.Path.{◌≡◌}
-use mathlib.Core.List.{List}
-use Prim.Native.Nat.{ℕ, ◌*◌, ◌/◌, ◌%◌, ◌^◌}
-use native.Mathlib.Decide.{ℕ_discrete}
-use native.Mathlib.Omega.{arith}
-use lib.ListN.{length, get_or, set, length-set}
-use lib.Seq.{get_or-set_same, get_or-set_other}
-use lib.Bits.{bit_or, bit_xor}
+use Rattle.std.proofs.Common.{◌≡◌, List, length, set, ℕ, ◌*◌, ◌/◌, ◌%◌, ◌^◌, arith, length-set, get_or, get_or-set_same, get_or-set_other}
+use Rattle.std.proofs.Math.Decide.{ℕ_discrete}
+use Rattle.std.specs.Int.Bits.{bit_or, bit_xor}
 use Rattle.laws.specs.Bits.{bit}
 use Rattle.laws.specs.BitsLaws.{one_shl, set_here, set_there, clear_here, clear_there}
 use Rattle.window.specs.Marks.{mark, Put, words}

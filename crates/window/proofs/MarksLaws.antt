@@ -1,9 +1,7 @@
 -- Laws of the window that marks keep. Assumes nothing.
-use Rattle.std.specs.Prelude.{◌≡◌, refl, List, ℕ, zero, suc, ◌+◌, ◌-◌, ◌≤◌, ◌<◌, max, ltb, length, get_or, set}
-use Rattle.std.proofs.Common.{sym, ap, ◌∙◌, le_of_suc-le-suc, not-suc-le-zero, arith, length-set, ext_get_or, get_or-set_same, get_or-set_other}
+use Rattle.std.proofs.Common.{◌≡◌, refl, List, ℕ, zero, suc, ◌+◌, ◌-◌, ◌≤◌, ◌<◌, max, ltb, length, get_or, set, sym, ap, ◌∙◌, le_of_suc-le-suc, not-suc-le-zero, arith, length-set, ext_get_or, get_or-set_same, get_or-set_other, lt-ltb, le-ltb}
 use Rattle.std.proofs.Math.Nat.{sub-zero}
 use Rattle.std.proofs.Math.Decide.{ℕ_discrete, dec_lt}
-use borrow.Author.Tests.{lt-ltb, le-ltb}
 use Rattle.laws.specs.Choice.{if}
 use Rattle.window.specs.Window.{width, Window, unseen, fresh, seen_of, verdict_of, slide, accept_of}
 use Rattle.window.proofs.WindowLaws.{verdict_nought, verdict_above, verdict_old, verdict_new, verdict_again, new_is}

@@ -1,11 +1,7 @@
 -- The window moves by clearing the marks from a up to p, one by one, and setting that of p. Nothing here knows how a mark is kept.
 -- Assumes nothing.
-use mathlib.Core.Path.{◌≡◌, refl, ◌∙◌}
-use mathlib.Core.List.{List}
-use Prim.Native.Nat.{ℕ, ◌+◌, ◌-◌, ◌≤◌, ◌<◌, max}
-use native.Mathlib.Decide.{ℕ_discrete}
-use native.Mathlib.Omega.{arith}
-use lib.ListN.{length}
+use Rattle.std.proofs.Common.{◌≡◌, ◌∙◌, refl, List, length, ℕ, ◌+◌, ◌-◌, ◌≤◌, ◌<◌, max, arith}
+use Rattle.std.proofs.Math.Decide.{ℕ_discrete}
 use Rattle.window.specs.Window.{width}
 use Rattle.window.specs.Marks.{mark, Put}
 use Rattle.window.proofs.MarksLaws.{Marked}

@@ -1,11 +1,5 @@
 -- Laws of reading a number byte by byte. Assumes nothing.
-use mathlib.Core.Path.{◌≡◌, refl, sym, ap, ◌∙◌}
-use mathlib.Core.List.{List}
-use Prim.Native.Nat.{ℕ, zero, suc, ◌+◌, ◌*◌, ◌^◌, ◌≤◌, ◌<◌}
-use native.Mathlib.Omega.{arith}
-use lib.Pow.{pow-add, pow_mono}
-use lib.ListN.{get_or, drop}
-use lib.Seq.{get_or-take, get_or-drop}
+use Rattle.std.proofs.Common.{◌≡◌, ◌∙◌, refl, List, drop, sym, ap, arith, pow-add, ℕ, zero, suc, ◌+◌, ◌*◌, ◌^◌, ◌≤◌, ◌<◌, pow_mono, get_or, get_or-take, get_or-drop}
 use Rattle.laws.specs.Part.{part}
 use Rattle.wire.specs.Reading.{num, Got}
 use Rattle.wire.proofs.ReadingLaws.{num_more}

@@ -1,6 +1,5 @@
 -- Laws of numbers read, and the round trips of 01 §2. Assumes nothing.
-use Rattle.std.specs.Prelude.{◌≡◌, refl, List, [], ◌++◌, ℕ, zero, suc, ◌+◌, ◌-◌, ◌*◌, ◌/◌, ◌^◌, ◌≤◌, ◌<◌, length, get_or}
-use Rattle.std.proofs.Common.{ap, sym, ◌∙◌, append_assoc, div-one, add-one, arith, shr-shr, length-append, get_or-append-add}
+use Rattle.std.proofs.Common.{◌≡◌, refl, List, [], ◌++◌, ℕ, zero, suc, ◌+◌, ◌-◌, ◌*◌, ◌/◌, ◌^◌, ◌≤◌, ◌<◌, length, get_or, ap, sym, ◌∙◌, append_assoc, div-one, add-one, arith, shr-shr, length-append, get_or-append-add}
 use Rattle.std.proofs.Math.Nat.{div-eq_of_lt, sub-zero, sub_self}
 use Rattle.std.proofs.Math.ListN.{get_or-append}
 use Rattle.laws.specs.RowsLaws.{miss_lt}

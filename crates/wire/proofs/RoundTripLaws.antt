@@ -1,6 +1,5 @@
 -- 01 §2: what is encoded decodes to the same, and what decodes encodes back to the same bytes. Assumes nothing.
-use Rattle.std.specs.Prelude.{◌≡◌, refl, List, [], ◌∷◌, ◌++◌, ℕ, zero, suc, ◌+◌, ◌-◌, ◌*◌, ◌/◌, ◌%◌, ◌^◌, ◌≤◌, ◌<◌, length, get_or, take, drop}
-use Rattle.std.proofs.Common.{ap, sym, ◌∙◌, div-one, arith, shr-shr, length-drop, take-append-drop, ext_get_or, get_or-take, get_or-drop, take-add, drop-drop, length-take-le, drop_at, eq-eqb, ne_eqb, le-ltb}
+use Rattle.std.proofs.Common.{◌≡◌, refl, List, [], ◌∷◌, ◌++◌, ℕ, zero, suc, ◌+◌, ◌-◌, ◌*◌, ◌/◌, ◌%◌, ◌^◌, ◌≤◌, ◌<◌, length, get_or, take, drop, ap, sym, ◌∙◌, div-one, arith, shr-shr, length-drop, take-append-drop, ext_get_or, get_or-take, get_or-drop, take-add, drop-drop, length-take-le, drop_at, eq-eqb, ne_eqb, le-ltb}
 use Rattle.std.proofs.Math.Decide.{ℕ_discrete}
 use Rattle.std.proofs.Math.Nat.{sub_self}
 use Rattle.laws.specs.Rows.{when, ◌or_else◌, branch}

@@ -1,6 +1,5 @@
 -- Bytes are a series of datagrams in one way only, and what leaves is a series. Assumes nothing.
-use Rattle.std.specs.Prelude.{◌≡◌, refl, List, [], ◌∷◌, ◌++◌, ℕ, ◌+◌, ◌≤◌, length, take, drop}
-use Rattle.std.proofs.Common.{sym, ap, ◌∙◌, append-nil, append_assoc, arith, length-append, take_at, drop_at}
+use Rattle.std.proofs.Common.{◌≡◌, refl, List, [], ◌∷◌, ◌++◌, ℕ, ◌+◌, ◌≤◌, length, take, drop, sym, ap, ◌∙◌, append-nil, append_assoc, arith, length-append, take_at, drop_at}
 use Rattle.std.proofs.Math.ListN.{get_or-append}
 use Rattle.wire.specs.Datagram.{head_size, Message, encode, wire}
 use Rattle.wire.specs.Reading.{fields_of, read, decode}

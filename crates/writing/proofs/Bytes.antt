@@ -1,9 +1,5 @@
 -- Laws of writing a number byte by byte. Assumes nothing.
-use mathlib.Core.Path.{◌≡◌, refl, ◌∙◌}
-use mathlib.Core.List.{List, ◌++◌}
-use Prim.Native.Nat.{ℕ, ◌+◌, ◌-◌, ◌*◌, ◌/◌, ◌%◌, ◌^◌, ◌≤◌, ◌<◌}
-use native.Mathlib.Omega.{arith}
-use lib.ListN.{length, take, drop, set, length-set}
+use Rattle.std.proofs.Common.{◌≡◌, ◌∙◌, refl, length, take, drop, set, List, ◌++◌, ℕ, ◌+◌, ◌-◌, ◌*◌, ◌/◌, ◌%◌, ◌^◌, ◌≤◌, ◌<◌, arith, length-set}
 use Rattle.laws.specs.CopyLaws.{store_more, copied}
 use Rattle.wire.specs.Datagram.{be}
 use Rattle.wire.specs.DatagramLaws.{be_length, be_at}

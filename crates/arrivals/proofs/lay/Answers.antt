@@ -1,4 +1,5 @@
-use borrow.Author.Rules.{rules}
+-- `arrivals::lay` meets its contract. Assumes nothing.
+use Rattle.std.proofs.Common.{rules}
 use Rattle.arrivals.proofs.StepsLaws.{laid}
 use Rattle.arrivals.proofs.lay.Goals as goal
 

@@ -1,4 +1,5 @@
-use borrow.Author.Rules.{rules}
+-- `arrivals::place` meets its contract. Assumes nothing.
+use Rattle.std.proofs.Common.{rules}
 use Rattle.arrivals.proofs.StepsLaws.{placed, placed_straight}
 use Rattle.arrivals.proofs.place.Goals as goal
 

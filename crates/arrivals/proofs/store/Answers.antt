@@ -1,4 +1,5 @@
-use borrow.Author.Rules.{rules}
+-- `arrivals::store` meets its contract. Assumes nothing.
+use Rattle.std.proofs.Common.{rules}
 use Rattle.arrivals.proofs.StepsLaws.{stored_none, stored_more, stored_all}
 use Rattle.arrivals.proofs.store.Goals as goal
 

@@ -1,4 +1,5 @@
-use Prim.Native.Nat.{◌-◌, ◌≤◌}
+-- What lasts in the loop of `arrivals::store`, and what falls.
+use Rattle.std.proofs.Common.{◌-◌, ◌≤◌}
 use Rattle.arrivals.specs.Steps.{Stored}
 use Rattle.arrivals.proofs.store.Given as goal
 

@@ -1,4 +1,5 @@
-use borrow.Author.Rules.{rules}
+-- `arrivals::store_one` meets its contract. Assumes nothing.
+use Rattle.std.proofs.Common.{rules}
 use Rattle.arrivals.proofs.StepsLaws.{stored_skip, stored_set}
 use Rattle.arrivals.proofs.store_one.Goals as goal
 

@@ -1,5 +1,6 @@
+-- `arrivals::write` meets its contract. Assumes nothing.
 use Rattle.arrivals.proofs.StepsLaws.{put_written}
-use borrow.Author.Rules.{rules}
+use Rattle.std.proofs.Common.{rules}
 use Rattle.arrivals.proofs.write.Goals as goal
 
 pub returns : goal.returns

@@ -1,6 +1,5 @@
-use mathlib.Core.Path.{◌∙◌}
-use native.Mathlib.Omega.{arith}
-use lib.ListN.{length-set}
+-- `copies::bytes` meets its contract. Assumes nothing.
+use Rattle.std.proofs.Common.{◌∙◌, arith, length-set}
 use Rattle.laws.specs.CopyLaws.{store_more, copied}
 use Rattle.copies.proofs.bytes.Goals as goal
 

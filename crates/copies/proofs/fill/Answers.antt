@@ -1,7 +1,6 @@
+-- `copies::fill` meets its contract. Assumes nothing.
 use Rattle.copies.proofs.FillingLaws.{fill_more, filled}
-use mathlib.Core.Path.{◌∙◌}
-use native.Mathlib.Omega.{arith}
-use lib.ListN.{length-set}
+use Rattle.std.proofs.Common.{◌∙◌, arith, length-set}
 use Rattle.copies.proofs.fill.Goals as goal
 
 pub loop-i-preserved : goal.loop-i-preserved

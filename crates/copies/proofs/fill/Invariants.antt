@@ -1,7 +1,5 @@
-use mathlib.Core.Path.{◌≡◌}
-use mathlib.Core.List.{◌++◌}
-use Prim.Native.Nat.{◌-◌, ◌≤◌}
-use lib.ListN.{length, take, drop, replicate}
+-- What lasts in the loop of `copies::fill`, and what falls.
+use Rattle.std.proofs.Common.{◌≡◌, ◌++◌, ◌-◌, ◌≤◌, length, take, drop, replicate}
 use Rattle.copies.proofs.fill.Given as goal
 
 abbrev pub invariant-loop-i : goal.invariant-loop-i

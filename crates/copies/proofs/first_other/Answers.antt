@@ -1,5 +1,6 @@
+-- `copies::first_other` meets its contract. Assumes nothing.
 use Rattle.copies.specs.Search.{searched}
-use borrow.Author.Rules.{rules}
+use Rattle.std.proofs.Common.{rules}
 use Rattle.copies.proofs.SearchLaws.{more_same, other_from}
 use Rattle.copies.proofs.first_other.Goals as goal
 

@@ -1,5 +1,5 @@
-use borrow.Author.Rules.{rules}
-use borrow.Author.Count.{below_more}
+-- `copies::first_other_slow` meets its contract. Assumes nothing.
+use Rattle.std.proofs.Common.{rules, below_more}
 use Rattle.copies.proofs.first_other_slow.Goals as goal
 
 pub loop-i-preserved : goal.loop-i-preserved

@@ -1,6 +1,5 @@
-use mathlib.Core.Path.{◌≡◌}
-use Prim.Native.Nat.{ℕ, ◌-◌, ◌≤◌, ◌<◌}
-use lib.ListN.{length, get_or}
+-- What lasts in the loop of `copies::first_other_slow`, and what falls.
+use Rattle.std.proofs.Common.{◌≡◌, ℕ, ◌-◌, ◌≤◌, ◌<◌, length, get_or}
 use Rattle.copies.proofs.first_other_slow.Given as goal
 
 abbrev pub invariant-loop-i : goal.invariant-loop-i

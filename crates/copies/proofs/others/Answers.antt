@@ -1,5 +1,5 @@
-use native.Mathlib.Omega.{arith}
-use borrow.Author.Rules.{rules}
+-- `copies::others` meets its contract. Assumes nothing.
+use Rattle.std.proofs.Common.{arith, rules}
 use Rattle.copies.proofs.SearchLaws.{block_more}
 use Rattle.copies.proofs.others.Goals as goal
 

@@ -1,7 +1,5 @@
-use mathlib.Core.Path.{◌≡◌, ap, ◌∙◌}
-use Prim.Native.Nat.{◌-◌}
-use native.Mathlib.Omega.{arith}
-use lib.ListN.{length}
+-- `copies::through` meets its contract. Assumes nothing.
+use Rattle.std.proofs.Common.{◌≡◌, ◌∙◌, ap, arith, ◌-◌, length}
 use Rattle.laws.specs.PartLaws.{part_here}
 use Rattle.copies.proofs.through.Goals as goal
 

@@ -1,8 +1,9 @@
+-- `endpoint::sluice_datagram` meets its contract. Assumes nothing.
 use Rattle.endpoint.specs.OutcomeLaws.{ready_small}
 use Rattle.endpoint.specs.SmallLaws.{hear_small}
 use Rattle.table.specs.ReadyLaws.{ready_table, ready_sections}
 use Rattle.endpoint.specs.HeardLaws.{hear_unready, hear_refused, hear_ready, hear_done}
-use borrow.Author.Rules.{rules}
+use Rattle.std.proofs.Common.{rules}
 use Rattle.endpoint.proofs.sluice_datagram.Goals as goal
 
 pub refusal-requires : goal.refusal-requires

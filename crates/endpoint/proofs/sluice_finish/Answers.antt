@@ -1,6 +1,7 @@
+-- `endpoint::sluice_finish` meets its contract. Assumes nothing.
 use Rattle.endpoint.specs.OutcomeLaws.{ready_small, finish_refused, finish_done}
 use Rattle.table.specs.ReadyLaws.{ready_table, ready_sections}
-use borrow.Author.Rules.{rules}
+use Rattle.std.proofs.Common.{rules}
 use Rattle.endpoint.proofs.sluice_finish.Goals as goal
 
 pub refusal-requires : goal.refusal-requires

@@ -1,6 +1,7 @@
+-- `endpoint::sluice_give` meets its contract. Assumes nothing.
 use Rattle.endpoint.specs.OutcomeLaws.{ready_small, give_refused, give_done}
 use Rattle.table.specs.ReadyLaws.{ready_table, ready_first, ready_sections}
-use borrow.Author.Rules.{rules}
+use Rattle.std.proofs.Common.{rules}
 use Rattle.endpoint.proofs.sluice_give.Goals as goal
 
 pub refusal-requires : goal.refusal-requires

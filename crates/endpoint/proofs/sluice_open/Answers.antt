@@ -1,5 +1,6 @@
+-- `endpoint::sluice_open` meets its contract. Assumes nothing.
 use Rattle.endpoint.specs.OpeningLaws.{open_small, open_table, open_marks, open_refused, open_done}
-use borrow.Author.Rules.{rules}
+use Rattle.std.proofs.Common.{rules}
 use Rattle.endpoint.proofs.sluice_open.Goals as goal
 
 pub refusal-requires : goal.refusal-requires

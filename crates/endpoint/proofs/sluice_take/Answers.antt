@@ -1,7 +1,7 @@
-use native.Mathlib.Omega.{arith}
+-- `endpoint::sluice_take` meets its contract. Assumes nothing.
+use Rattle.std.proofs.Common.{arith, rules}
 use Rattle.endpoint.specs.OutcomeLaws.{ready_small, take_refused, ended_small, taken_up, taken_few, take_done}
 use Rattle.table.specs.ReadyLaws.{ready_table, ready_first, ready_sections}
-use borrow.Author.Rules.{rules}
 use Rattle.endpoint.proofs.sluice_take.Goals as goal
 
 pub refusal-requires : goal.refusal-requires

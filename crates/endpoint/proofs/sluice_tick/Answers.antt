@@ -1,7 +1,8 @@
+-- `endpoint::sluice_tick` meets its contract. Assumes nothing.
 use Rattle.endpoint.specs.Answer.{answer_of}
 use Rattle.endpoint.specs.OutcomeLaws.{ready_small}
 use Rattle.endpoint.specs.TickedLaws.{output_small, tick_unready, tick_refused, tick_ready, tick_done}
-use borrow.Author.Rules.{rules}
+use Rattle.std.proofs.Common.{rules}
 use Rattle.endpoint.proofs.sluice_tick.Goals as goal
 
 pub refusal-requires : goal.refusal-requires

@@ -1,5 +1,6 @@
+-- `filling::beyond` meets its contract. Assumes nothing.
 use Rattle.filling.proofs.FillLaws.{extend_fills}
-use borrow.Author.Rules.{rules}
+use Rattle.std.proofs.Common.{rules}
 use Rattle.filling.proofs.beyond.Goals as goal
 
 pub returns-then-p-s : goal.returns-then-p-s

@@ -1,5 +1,6 @@
+-- `filling::fill` meets its contract. Assumes nothing.
 use Rattle.filling.proofs.FillLaws.{none_fills, old_fills, within_fills}
-use borrow.Author.Rules.{rules}
+use Rattle.std.proofs.Common.{rules}
 use Rattle.filling.proofs.fill.Goals as goal
 
 pub returns-then-src-eq0 : goal.returns-then-src-eq0

@@ -1,5 +1,6 @@
+-- `filling::fresh` meets its contract. Assumes nothing.
 use Rattle.filling.proofs.FillLaws.{fresh_not, fresh_none}
-use borrow.Author.Rules.{rules}
+use Rattle.std.proofs.Common.{rules}
 use Rattle.filling.proofs.fresh.Goals as goal
 
 pub returns-then-s-e : goal.returns-then-s-e

@@ -1,4 +1,5 @@
-use borrow.Author.Rules.{rules}
+-- `filling::hear` meets its contract. Assumes nothing.
+use Rattle.std.proofs.Common.{rules}
 use Rattle.filling.proofs.FillLaws.{hears_end, hears_none}
 use Rattle.filling.proofs.hear.Goals as goal
 

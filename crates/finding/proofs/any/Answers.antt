@@ -1,4 +1,5 @@
-use borrow.Author.Rules.{rules}
+-- `finding::any` meets its contract. Assumes nothing.
+use Rattle.std.proofs.Common.{rules}
 use Rattle.finding.proofs.FindLaws.{unmarked_found}
 use Rattle.finding.proofs.any.Goals as goal
 

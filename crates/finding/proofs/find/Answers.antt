@@ -1,4 +1,5 @@
-use borrow.Author.Rules.{rules}
+-- `finding::find` meets its contract. Assumes nothing.
+use Rattle.std.proofs.Common.{rules}
 use Rattle.finding.proofs.FindLaws.{finds_within, finds_over}
 use Rattle.finding.proofs.find.Goals as goal
 

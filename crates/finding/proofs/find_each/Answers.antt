@@ -1,4 +1,5 @@
-use borrow.Author.Rules.{rules}
+-- `finding::find_each` meets its contract. Assumes nothing.
+use Rattle.std.proofs.Common.{rules}
 use Rattle.finding.proofs.FindLaws.{skips_none, skips_more, finds_stop, finds_end}
 use Rattle.finding.proofs.find_each.Goals as goal
 

@@ -1,4 +1,5 @@
-use Prim.Native.Nat.{◌-◌}
+-- What lasts in the loop of `finding::find_each`, and what falls.
+use Rattle.std.proofs.Common.{◌-◌}
 use Rattle.finding.specs.Finding.{Skips}
 use Rattle.finding.proofs.find_each.Given as goal
 

@@ -1,4 +1,5 @@
-use borrow.Author.Rules.{rules}
+-- `finding::skip_whole` meets its contract. Assumes nothing.
+use Rattle.std.proofs.Common.{rules}
 use Rattle.finding.proofs.FindLaws.{skips_within, skips_join}
 use Rattle.finding.proofs.skip_whole.Goals as goal
 

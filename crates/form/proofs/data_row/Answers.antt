@@ -1,4 +1,5 @@
-use borrow.Author.Rules.{rules}
+-- `form::data_row` meets its contract. Assumes nothing.
+use Rattle.std.proofs.Common.{rules}
 use Rattle.wire.specs.Reading.{data_row}
 use Rattle.laws.specs.RowsLaws.{rows}
 use Rattle.form.proofs.data_row.Goals as goal

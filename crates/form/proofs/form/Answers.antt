@@ -1,4 +1,5 @@
-use borrow.Author.Rules.{rules}
+-- `form::form` meets its contract. Assumes nothing.
+use Rattle.std.proofs.Common.{rules}
 use Rattle.wire.specs.Reading.{form_of}
 use Rattle.laws.specs.RowsLaws.{rows}
 use Rattle.wire.proofs.ReadingLaws.{form_rows}

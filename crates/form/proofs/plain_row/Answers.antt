@@ -1,4 +1,5 @@
-use borrow.Author.Rules.{rules}
+-- `form::plain_row` meets its contract. Assumes nothing.
+use Rattle.std.proofs.Common.{rules}
 use Rattle.wire.specs.Reading.{plain_row}
 use Rattle.laws.specs.RowsLaws.{rows}
 use Rattle.form.proofs.plain_row.Goals as goal

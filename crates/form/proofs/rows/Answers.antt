@@ -1,4 +1,5 @@
-use borrow.Author.Rules.{rules}
+-- `form::rows` meets its contract. Assumes nothing.
+use Rattle.std.proofs.Common.{rules}
 use Rattle.wire.specs.Reading.{rows_of}
 use Rattle.laws.specs.RowsLaws.{rows}
 use Rattle.form.proofs.rows.Goals as goal

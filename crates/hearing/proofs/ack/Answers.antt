@@ -1,7 +1,7 @@
-use native.Mathlib.Omega.{arith}
+-- `hearing::ack` meets its contract. Assumes nothing.
+use Rattle.std.proofs.Common.{arith, rules}
 use Rattle.table.specs.Layout.{sections_of}
 use Rattle.hearing.proofs.HearingLaws.{ack_row, ack_within, judged_some, judged_near, ack_done}
-use borrow.Author.Rules.{rules}
 use Rattle.hearing.proofs.ack.Goals as goal
 
 pub ack-r-requires : goal.ack-r-requires

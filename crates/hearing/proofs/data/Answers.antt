@@ -1,6 +1,7 @@
+-- `hearing::data` meets its contract. Assumes nothing.
 use Rattle.table.specs.LayoutLaws.{ring_sized}
 use Rattle.hearing.proofs.HearingLaws.{data_lent, data_room, data_some, data_near, data_done}
-use borrow.Author.Rules.{rules}
+use Rattle.std.proofs.Common.{rules}
 use Rattle.hearing.proofs.data.Goals as goal
 
 pub hear-v-requires : goal.hear-v-requires

@@ -1,3 +1,4 @@
+-- `hearing::hear` meets its contract. Assumes nothing.
 use Rattle.hearing.proofs.HearingLaws.{may_hearing, may_judged, judged_some, judged_near, heard_data, heard_ack, heard_probe}
 use Rattle.hearing.proofs.hear.Goals as goal
 

@@ -1,5 +1,6 @@
+-- `hearing::hear_row` meets its contract. Assumes nothing.
 use Rattle.hearing.proofs.HearingLaws.{hear_form, hear_judge, form_header}
-use borrow.Author.Rules.{rules}
+use Rattle.std.proofs.Common.{rules}
 use Rattle.hearing.proofs.hear_row.Goals as goal
 
 pub returns-then-wrong-ne0 : goal.returns-then-wrong-ne0

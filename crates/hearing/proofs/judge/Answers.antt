@@ -1,6 +1,7 @@
+-- `hearing::judge` meets its contract. Assumes nothing.
 use Rattle.hearing.proofs.HearingLaws.{judge_epoch, judge_number, judge_place}
 use Rattle.table.specs.Layout.{sections_of}
-use borrow.Author.Rules.{rules}
+use Rattle.std.proofs.Common.{rules}
 use Rattle.hearing.proofs.judge.Goals as goal
 
 pub returns-then-h-c : goal.returns-then-h-c

@@ -1,6 +1,7 @@
+-- `hearing::note` meets its contract. Assumes nothing.
 use Rattle.table.specs.Layout.{sections_of}
 use Rattle.hearing.proofs.HearingLaws.{near_loaded, noted}
-use borrow.Author.Rules.{rules}
+use Rattle.std.proofs.Common.{rules}
 use Rattle.hearing.proofs.note.Goals as goal
 
 pub accept-high-requires : goal.accept-high-requires

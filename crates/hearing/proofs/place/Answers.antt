@@ -1,6 +1,7 @@
+-- `hearing::place` meets its contract. Assumes nothing.
 use Rattle.hearing.proofs.HearingLaws.{place_data, place_ack, place_probe}
 use Rattle.table.specs.ReadyLaws.{ready_ranged}
-use borrow.Author.Rules.{rules}
+use Rattle.std.proofs.Common.{rules}
 use Rattle.hearing.proofs.place.Goals as goal
 
 pub judge-requires : goal.judge-requires

@@ -1,5 +1,6 @@
+-- `holes::follow` meets its contract. Assumes nothing.
 use Rattle.holes.proofs.HoleLaws.{hole_fills, tail_fills}
-use borrow.Author.Rules.{rules}
+use Rattle.std.proofs.Common.{rules}
 use Rattle.holes.proofs.follow.Goals as goal
 
 pub returns-then-l-s : goal.returns-then-l-s

@@ -1,5 +1,6 @@
+-- `holes::leap` meets its contract. Assumes nothing.
 use Rattle.holes.proofs.HoleLaws.{leap_fills}
-use borrow.Author.Rules.{rules}
+use Rattle.std.proofs.Common.{rules}
 use Rattle.holes.proofs.leap.Goals as goal
 
 pub returns : goal.returns

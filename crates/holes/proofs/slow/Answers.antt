@@ -1,5 +1,6 @@
+-- `holes::slow` meets its contract. Assumes nothing.
 use Rattle.holes.proofs.HoleLaws.{slow_fills}
-use borrow.Author.Rules.{rules}
+use Rattle.std.proofs.Common.{rules}
 use Rattle.holes.proofs.slow.Goals as goal
 
 pub returns : goal.returns

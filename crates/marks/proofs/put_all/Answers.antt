@@ -1,4 +1,5 @@
-use borrow.Author.Rules.{rules}
+-- `marks::put_all` meets its contract. Assumes nothing.
+use Rattle.std.proofs.Common.{rules}
 use Rattle.marks.proofs.StretchLaws.{marked_three}
 use Rattle.marks.proofs.put_all.Goals as goal
 

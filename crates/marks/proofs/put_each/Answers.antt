@@ -1,4 +1,5 @@
-use borrow.Author.Rules.{rules}
+-- `marks::put_each` meets its contract. Assumes nothing.
+use Rattle.std.proofs.Common.{rules}
 use Rattle.marks.proofs.StretchLaws.{marked_none, marked_more, marked_all}
 use Rattle.marks.proofs.put_each.Goals as goal
 

@@ -1,4 +1,5 @@
-use Prim.Native.Nat.{◌-◌, ◌≤◌}
+-- What lasts in the loop of `marks::put_each`, and what falls.
+use Rattle.std.proofs.Common.{◌-◌, ◌≤◌}
 use Rattle.marks.specs.Stretches.{Marked}
 use Rattle.marks.proofs.put_each.Given as goal
 

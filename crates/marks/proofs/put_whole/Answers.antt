@@ -1,4 +1,5 @@
-use borrow.Author.Rules.{rules}
+-- `marks::put_whole` meets its contract. Assumes nothing.
+use Rattle.std.proofs.Common.{rules}
 use Rattle.marks.proofs.StretchLaws.{marked_join}
 use Rattle.marks.proofs.put_whole.Goals as goal
 

@@ -1,4 +1,5 @@
-use borrow.Author.Rules.{rules}
+-- `marks::test` meets its contract. Assumes nothing.
+use Rattle.std.proofs.Common.{rules}
 use Rattle.marks.proofs.Bytes.{read_mark}
 use Rattle.marks.proofs.test.Goals as goal
 

@@ -1,4 +1,5 @@
-use borrow.Author.Tests.{lt-ltb, le-ltb}
+-- `output::end_flag` meets its contract. Assumes nothing.
+use Rattle.std.proofs.Common.{lt-ltb, le-ltb}
 use Rattle.output.proofs.end_flag.Goals as goal
 
 pub returns-then-given-to : goal.returns-then-given-to

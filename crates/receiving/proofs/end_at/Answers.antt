@@ -1,4 +1,5 @@
-use borrow.Author.Rules.{rules}
+-- `receiving::end_at` meets its contract. Assumes nothing.
+use Rattle.std.proofs.Common.{rules}
 use Rattle.receiving.proofs.JudgeLaws.{end_at_none, end_at_here, end_at_other}
 use Rattle.receiving.proofs.end_at.Goals as goal
 

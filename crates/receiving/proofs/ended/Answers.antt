@@ -1,4 +1,5 @@
-use borrow.Author.Rules.{rules}
+-- `receiving::ended` meets its contract. Assumes nothing.
+use Rattle.std.proofs.Common.{rules}
 use Rattle.receiving.specs.Calls.{ended_by}
 use Rattle.receiving.proofs.ended.Goals as goal
 

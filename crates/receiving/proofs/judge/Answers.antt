@@ -1,4 +1,5 @@
-use borrow.Author.Rules.{rules}
+-- `receiving::judge` meets its contract. Assumes nothing.
+use Rattle.std.proofs.Common.{rules}
 use Rattle.receiving.proofs.JudgeLaws.{beyond_sum, judge_beyond, judge_misplaced}
 use Rattle.receiving.proofs.judge.Goals as goal
 

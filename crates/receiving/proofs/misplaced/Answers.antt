@@ -1,4 +1,5 @@
-use borrow.Author.Rules.{rules}
+-- `receiving::misplaced` meets its contract. Assumes nothing.
+use Rattle.std.proofs.Common.{rules}
 use Rattle.receiving.proofs.JudgeLaws.{misplaced_quiet, misplaced_early, misplaced_new, misplaced_elsewhere, misplaced_there, misplaced_empty, misplaced_after, misplaced_before}
 use Rattle.receiving.proofs.misplaced.Goals as goal
 

@@ -1,4 +1,5 @@
-use borrow.Author.Rules.{rules}
+-- `receiving::plausible` meets its contract. Assumes nothing.
+use Rattle.std.proofs.Common.{rules}
 use Rattle.receiving.specs.ReadLaws.{plausible_taken, plausible_low, plausible_tail, plausible_high, plausible_limit}
 use Rattle.receiving.proofs.plausible.Goals as goal
 

@@ -1,5 +1,5 @@
-use native.Mathlib.Omega.{arith}
-use borrow.Author.Rules.{rules}
+-- `receiving::position` meets its contract. Assumes nothing.
+use Rattle.std.proofs.Common.{arith, rules}
 use Rattle.receiving.specs.Receiving.{end_of}
 use Rattle.receiving.specs.Calls.{position_by}
 use Rattle.receiving.specs.ReadLaws.{end_at_small}

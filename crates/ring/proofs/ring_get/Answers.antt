@@ -1,3 +1,4 @@
+-- `ring::ring_get` meets its contract. Assumes nothing.
 use Rattle.ring.proofs.Ring.{got_parts}
 use Rattle.ring.proofs.ring_get.Goals as goal
 

@@ -1,3 +1,4 @@
+-- `ring::ring_put` meets its contract. Assumes nothing.
 use Rattle.ring.proofs.Ring.{put_parts}
 use Rattle.ring.proofs.ring_put.Goals as goal
 

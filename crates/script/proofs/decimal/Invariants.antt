@@ -1,5 +1,5 @@
-use Prim.Native.Nat.{◌-◌, ◌<◌}
-use lib.ListN.{length}
+-- What lasts in the loop of `script::decimal`, and what falls.
+use Rattle.std.proofs.Common.{◌-◌, ◌<◌, length}
 use Rattle.script.proofs.decimal.Given as goal
 
 abbrev pub invariant-loop-i : goal.invariant-loop-i

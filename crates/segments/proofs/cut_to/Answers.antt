@@ -1,5 +1,6 @@
+-- `segments::cut_to` meets its contract. Assumes nothing.
 use Rattle.segments.specs.StepLaws.{cut_to_end, cut_to_more, cut_to_open}
-use borrow.Author.Rules.{rules}
+use Rattle.std.proofs.Common.{rules}
 use Rattle.segments.proofs.cut_to.Goals as goal
 
 pub returns-then-to-l : goal.returns-then-to-l

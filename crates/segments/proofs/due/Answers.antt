@@ -1,7 +1,7 @@
-use native.Mathlib.Omega.{arith}
+-- `segments::due` meets its contract. Assumes nothing.
+use Rattle.std.proofs.Common.{arith, le-leb, ◌-◌, ◌≤◌, ◌<◌}
 use Rattle.segments.specs.Steps.{due_of}
-use borrow.Author.Tests.{le-leb, lt-leb}
-use Prim.Native.Nat.{◌-◌, ◌≤◌, ◌<◌}
+use Rattle.std.proofs.lemmas.Bool.{lt-leb}
 use Rattle.segments.proofs.due.Goals as goal
 
 pub returns-then-w-minus : goal.returns-then-w-minus

@@ -1,5 +1,6 @@
+-- `sending::ack` meets its contract. Assumes nothing.
 use Rattle.sending.proofs.Acking.{acking_none, acking_more, acking_stop, acking_all}
-use borrow.Author.Rules.{rules}
+use Rattle.std.proofs.Common.{rules}
 use Rattle.sending.proofs.ack.Goals as goal
 
 pub loop-k-init : goal.loop-k-init

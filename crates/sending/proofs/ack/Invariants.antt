@@ -1,3 +1,4 @@
+-- What lasts in the loop of `sending::ack`, and what falls.
 use Rattle.sending.proofs.Acking.{Acking}
 use Rattle.sending.proofs.ack.Given as goal
 

@@ -1,5 +1,6 @@
+-- `sending::ack_refusal` meets its contract. Assumes nothing.
 use Rattle.laws.specs.Rows.{when}
-use borrow.Author.Tests.{lt-ltb, le-ltb}
+use Rattle.std.proofs.Common.{lt-ltb, le-ltb}
 use Rattle.sending.proofs.ack_refusal.Goals as goal
 
 pub returns-then-next-position : goal.returns-then-next-position

@@ -1,5 +1,6 @@
+-- `sending::ago` meets its contract. Assumes nothing.
 use Rattle.sending.proofs.Tests.{ago_never, ago_some}
-use borrow.Author.Rules.{rules}
+use Rattle.std.proofs.Common.{rules}
 use Rattle.sending.proofs.ago.Goals as goal
 
 pub returns-then-probed-eq0 : goal.returns-then-probed-eq0

@@ -1,5 +1,6 @@
+-- `sending::fresh_row` meets its contract. Assumes nothing.
 use Rattle.sending.specs.Buffers.{fresh_row}
-use mathlib.Core.Path.{refl}
+use Rattle.std.proofs.Common.{refl}
 use Rattle.sending.proofs.fresh_row.Goals as goal
 
 pub returns : goal.returns

@@ -1,11 +1,8 @@
+-- `sending::give` meets its contract. Assumes nothing.
 use Rattle.ring.specs.Ring.{Put}
-use native.Mathlib.Nat.{sub-zero}
-use Prim.Native.Nat.{◌-◌}
-use lib.ListN.{take}
-use native.Mathlib.Omega.{arith}
+use Rattle.std.proofs.Math.Nat.{sub-zero}
+use Rattle.std.proofs.Common.{◌-◌, take, arith, length-take, rules}
 use Rattle.sending.specs.GiveLaws.{room_small}
-use lib.ListN.{length-take}
-use borrow.Author.Rules.{rules}
 use Rattle.sending.proofs.give.Goals as goal
 
 pub ring_put-requires : goal.ring_put-requires

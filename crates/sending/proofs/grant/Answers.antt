@@ -1,6 +1,6 @@
-use native.Mathlib.Omega.{arith}
+-- `sending::grant` meets its contract. Assumes nothing.
+use Rattle.std.proofs.Common.{arith, lt-ltb, le-ltb}
 use Rattle.sending.specs.Buffers.{word_of}
-use borrow.Author.Tests.{lt-ltb, le-ltb}
 use Rattle.sending.proofs.grant.Goals as goal
 
 pub returns-then-limit-top : goal.returns-then-limit-top

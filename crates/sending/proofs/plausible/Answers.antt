@@ -1,5 +1,5 @@
-use native.Mathlib.Omega.{arith}
-use borrow.Author.Tests.{leb-true, le-leb}
+-- `sending::plausible` meets its contract. Assumes nothing.
+use Rattle.std.proofs.Common.{arith, leb-true, le-leb}
 use Rattle.sending.proofs.Tests.{tells_no}
 use Rattle.sending.proofs.plausible.Goals as goal
 

@@ -1,5 +1,6 @@
+-- `sending::probes` meets its contract. Assumes nothing.
 use Rattle.sending.proofs.Tests.{probes_given, probes_kept, probes_limit, probes_allowed, probes_ago}
-use borrow.Author.Rules.{rules}
+use Rattle.std.proofs.Common.{rules}
 use Rattle.sending.proofs.probes.Goals as goal
 
 pub returns-then-l-next : goal.returns-then-l-next

@@ -1,6 +1,6 @@
-use native.Mathlib.Omega.{arith}
+-- `sending::room` meets its contract. Assumes nothing.
+use Rattle.std.proofs.Common.{arith, rules}
 use Rattle.sending.specs.GiveLaws.{room_closed, room_open}
-use borrow.Author.Rules.{rules}
 use Rattle.sending.proofs.room.Goals as goal
 
 pub returns-then-l-ne1 : goal.returns-then-l-ne1

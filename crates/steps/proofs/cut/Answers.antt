@@ -1,5 +1,6 @@
+-- `steps::cut` meets its contract. Assumes nothing.
 use Rattle.steps.proofs.Cutting.{cutting_none, cutting_more, cutting_full, cutting_nothing, cutting_all}
-use borrow.Author.Rules.{rules}
+use Rattle.std.proofs.Common.{rules}
 use Rattle.steps.proofs.cut.Goals as goal
 
 pub loop-n-init : goal.loop-n-init

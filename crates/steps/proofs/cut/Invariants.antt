@@ -1,5 +1,6 @@
+-- What lasts in the loop of `steps::cut`, and what falls.
 use Rattle.steps.proofs.Cutting.{Cutting}
-use Prim.Native.Nat.{◌-◌}
+use Rattle.std.proofs.Common.{◌-◌}
 use Rattle.steps.proofs.cut.Given as goal
 
 abbrev pub invariant-loop-n : goal.invariant-loop-n

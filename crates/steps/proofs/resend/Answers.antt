@@ -1,6 +1,7 @@
+-- `steps::resend` meets its contract. Assumes nothing.
 use Rattle.segments.specs.StepLaws.{due_allowed}
 use Rattle.steps.proofs.Resending.{resending_none, resending_skip, resending_send, resending_full, resending_all}
-use borrow.Author.Rules.{rules}
+use Rattle.std.proofs.Common.{rules}
 use Rattle.steps.proofs.resend.Goals as goal
 
 pub loop-i-init : goal.loop-i-init

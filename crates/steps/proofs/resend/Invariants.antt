@@ -1,5 +1,6 @@
+-- What lasts in the loop of `steps::resend`, and what falls.
 use Rattle.steps.proofs.Resending.{Resending}
-use Prim.Native.Nat.{◌-◌, ◌≤◌}
+use Rattle.std.proofs.Common.{◌-◌, ◌≤◌}
 use Rattle.steps.proofs.resend.Given as goal
 
 abbrev pub invariant-loop-i : goal.invariant-loop-i

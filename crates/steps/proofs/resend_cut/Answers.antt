@@ -1,8 +1,7 @@
-use native.Mathlib.Omega.{arith}
+-- `steps::resend_cut` meets its contract. Assumes nothing.
+use Rattle.std.proofs.Common.{arith, length, ◌-◌}
 use Rattle.steps.proofs.Both.{both}
 use Rattle.ring.specs.Ring.{span}
-use lib.ListN.{length}
-use Prim.Native.Nat.{◌-◌}
 use Rattle.steps.proofs.resend_cut.Goals as goal
 
 pub overflow_add-result : goal.overflow_add-result

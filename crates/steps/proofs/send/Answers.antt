@@ -1,4 +1,5 @@
-use native.Mathlib.Omega.{arith}
+-- `steps::send` meets its contract. Assumes nothing.
+use Rattle.std.proofs.Common.{arith}
 use Rattle.ring.specs.Ring.{span}
 use Rattle.segments.specs.Segments.{segs}
 use Rattle.sending.specs.Steps.{cuts_of, steps_of}

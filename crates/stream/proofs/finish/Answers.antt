@@ -1,5 +1,6 @@
+-- `stream::finish` meets its contract. Assumes nothing.
 use Rattle.stream.specs.StreamLaws.{finished}
-use borrow.Author.Rules.{rules}
+use Rattle.std.proofs.Common.{rules}
 use Rattle.stream.proofs.finish.Goals as goal
 
 pub returns : goal.returns

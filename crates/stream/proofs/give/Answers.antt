@@ -1,7 +1,7 @@
-use native.Mathlib.Omega.{arith}
+-- `stream::give` meets its contract. Assumes nothing.
+use Rattle.std.proofs.Common.{arith, rules}
 use Rattle.table.specs.LayoutLaws.{ring_sized}
 use Rattle.stream.specs.StreamLaws.{given_fits, gave}
-use borrow.Author.Rules.{rules}
 use Rattle.stream.proofs.give.Goals as goal
 
 pub overflow_add-longer : goal.overflow_add-longer

@@ -1,3 +1,4 @@
+-- `stream::open_end` meets its contract. Assumes nothing.
 use Rattle.table.specs.LayoutLaws.{ring_sized}
 use Rattle.stream.specs.OpeningLaws.{opened}
 use Rattle.stream.proofs.open_end.Goals as goal

@@ -1,5 +1,6 @@
+-- `stream::save_all` meets its contract. Assumes nothing.
 use Rattle.stream.specs.OpeningLaws.{saved}
-use borrow.Author.Rules.{rules}
+use Rattle.std.proofs.Common.{rules}
 use Rattle.stream.proofs.save_all.Goals as goal
 
 pub returns : goal.returns

@@ -1,7 +1,8 @@
+-- `stream::take` meets its contract. Assumes nothing.
 use Rattle.table.specs.LayoutLaws.{ring_sized}
 use Rattle.table.specs.ReadyLaws.{ready_ranged}
 use Rattle.stream.specs.StreamLaws.{took}
-use borrow.Author.Rules.{rules}
+use Rattle.std.proofs.Common.{rules}
 use Rattle.stream.proofs.take.Goals as goal
 
 pub take-after-requires : goal.take-after-requires

@@ -1,3 +1,4 @@
+-- `table::common_in` meets its contract. Assumes nothing.
 use Rattle.table.specs.Layout.{sections_of}
 use Rattle.table.proofs.common_in.Goals as goal
 

@@ -1,7 +1,5 @@
-use mathlib.Core.Path.{◌≡◌}
-use mathlib.Core.List.{◌++◌}
-use Prim.Native.Nat.{◌-◌, ◌≤◌}
-use lib.ListN.{length, take, drop}
+-- What lasts in the loop of `table::copy_words`, and what falls.
+use Rattle.std.proofs.Common.{◌≡◌, ◌++◌, ◌-◌, ◌≤◌, length, take, drop}
 use Rattle.table.proofs.copy_words.Given as goal
 
 abbrev pub invariant-loop-i : goal.invariant-loop-i

@@ -1,6 +1,7 @@
+-- `table::going` meets its contract. Assumes nothing.
 use Rattle.laws.specs.RowsLaws.{tests}
 use Rattle.table.specs.Rows.{going_of}
-use borrow.Author.Rules.{rules}
+use Rattle.std.proofs.Common.{rules}
 use Rattle.table.proofs.going.Goals as goal
 
 pub returns-then-c-ne1 : goal.returns-then-c-ne1

@@ -1,5 +1,6 @@
+-- `table::interval_row` meets its contract. Assumes nothing.
 use Rattle.table.specs.Rows.{interval_row}
-use borrow.Author.Rules.{rules}
+use Rattle.std.proofs.Common.{rules}
 use Rattle.laws.specs.RowsLaws.{rows}
 use Rattle.table.proofs.interval_row.Goals as goal
 

@@ -1,4 +1,5 @@
-use mathlib.Core.Path.{refl}
+-- `table::load_scalars` meets its contract. Assumes nothing.
+use Rattle.std.proofs.Common.{refl}
 use Rattle.table.specs.Layout.{scalars_of}
 use Rattle.table.proofs.load_scalars.Goals as goal
 

@@ -1,4 +1,5 @@
-use mathlib.Core.Path.{refl}
+-- `table::load_sends` meets its contract. Assumes nothing.
+use Rattle.std.proofs.Common.{refl}
 use Rattle.table.specs.Layout.{sends_of}
 use Rattle.table.proofs.load_sends.Goals as goal
 

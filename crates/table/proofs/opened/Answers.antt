@@ -1,5 +1,6 @@
+-- `table::opened` meets its contract. Assumes nothing.
 use Rattle.table.specs.ReadyLaws.{opened_plausible, opened_not_orderly, opened_not_going}
-use borrow.Author.Rules.{rules}
+use Rattle.std.proofs.Common.{rules}
 use Rattle.table.proofs.opened.Goals as goal
 
 pub returns-then-plausible : goal.returns-then-plausible

@@ -1,5 +1,6 @@
+-- `table::ready` meets its contract. Assumes nothing.
 use Rattle.table.specs.ReadyLaws.{short_table, ready_short, ready_fine, ready_unopened}
-use borrow.Author.Rules.{rules}
+use Rattle.std.proofs.Common.{rules}
 use Rattle.table.proofs.ready.Goals as goal
 
 pub returns-then-short-ne0 : goal.returns-then-short-ne0

@@ -1,8 +1,7 @@
-use native.Mathlib.Omega.{arith}
-use lib.ListN.{length-set}
+-- `table::save_scalars` meets its contract. Assumes nothing.
+use Rattle.std.proofs.Common.{arith, length-set, rules}
 use Rattle.laws.specs.PartLaws.{sets_all}
 use Rattle.table.specs.Layout.{scalars_words}
-use borrow.Author.Rules.{rules}
 use Rattle.table.proofs.save_scalars.Goals as goal
 
 pub bounds-w-1 : goal.bounds-w-1

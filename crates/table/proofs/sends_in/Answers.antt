@@ -1,3 +1,4 @@
+-- `table::sends_in` meets its contract. Assumes nothing.
 use Rattle.table.specs.Layout.{sections_of}
 use Rattle.table.proofs.sends_in.Goals as goal
 

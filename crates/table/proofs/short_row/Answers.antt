@@ -1,5 +1,6 @@
+-- `table::short_row` meets its contract. Assumes nothing.
 use Rattle.table.specs.Rows.{short_row}
-use borrow.Author.Rules.{rules}
+use Rattle.std.proofs.Common.{rules}
 use Rattle.laws.specs.RowsLaws.{rows}
 use Rattle.table.proofs.short_row.Goals as goal
 

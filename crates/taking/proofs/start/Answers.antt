@@ -1,4 +1,5 @@
-use borrow.Author.Rules.{rules}
+-- `taking::start` meets its contract. Assumes nothing.
+use Rattle.std.proofs.Common.{rules}
 use Rattle.taking.proofs.TakeLaws.{starts}
 use Rattle.taking.proofs.start.Goals as goal
 

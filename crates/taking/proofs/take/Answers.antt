@@ -1,9 +1,6 @@
-use mathlib.Core.Path.{◌≡◌}
-use Prim.Native.Nat.{◌-◌}
-use native.Mathlib.Omega.{arith}
-use lib.ListN.{length, take, length-take}
+-- `taking::take` meets its contract. Assumes nothing.
+use Rattle.std.proofs.Common.{◌≡◌, ◌-◌, arith, length-take, rules, length, take}
 use Rattle.taking.proofs.TakeLaws.{takes}
-use borrow.Author.Rules.{rules}
 use Rattle.taking.proofs.take.Goals as goal
 
 pub returns : goal.returns

@@ -1,5 +1,6 @@
+-- `ticking::ack_first` meets its contract. Assumes nothing.
 use Rattle.ticking.specs.TickingLaws.{ack_none, ack_one}
-use borrow.Author.Rules.{rules}
+use Rattle.std.proofs.Common.{rules}
 use Rattle.ticking.proofs.ack_first.Goals as goal
 
 pub returns-then-a-eq0 : goal.returns-then-a-eq0

@@ -1,5 +1,6 @@
+-- `ticking::acks` meets its contract. Assumes nothing.
 use Rattle.ticking.specs.TickingLaws.{acks_one, acks_shut, acks_none}
-use borrow.Author.Rules.{rules}
+use Rattle.std.proofs.Common.{rules}
 use Rattle.ticking.proofs.acks.Goals as goal
 
 pub returns-then-allowed-gt0 : goal.returns-then-allowed-gt0

@@ -1,5 +1,6 @@
+-- `ticking::allowance` meets its contract. Assumes nothing.
 use Rattle.ticking.specs.TickingLaws.{allowance_late, allowance_far, allowance_full, allowance_left}
-use borrow.Author.Rules.{rules}
+use Rattle.std.proofs.Common.{rules}
 use Rattle.ticking.proofs.allowance.Goals as goal
 
 pub returns-then-now-ge-CEILING : goal.returns-then-now-ge-CEILING

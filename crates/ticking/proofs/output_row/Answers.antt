@@ -1,5 +1,6 @@
+-- `ticking::output_row` meets its contract. Assumes nothing.
 use Rattle.ticking.specs.TickingLaws.{output_short, output_fine}
-use borrow.Author.Rules.{rules}
+use Rattle.std.proofs.Common.{rules}
 use Rattle.ticking.proofs.output_row.Goals as goal
 
 pub returns-then-n-lt-OUTPUT_LEAST : goal.returns-then-n-lt-OUTPUT_LEAST

@@ -1,5 +1,6 @@
+-- `ticking::plan_of` meets its contract. Assumes nothing.
 use Rattle.ticking.specs.TickingLaws.{number_loaded, planned}
-use borrow.Author.Rules.{rules}
+use Rattle.std.proofs.Common.{rules}
 use Rattle.ticking.proofs.plan_of.Goals as goal
 
 pub allowance-allowed-requires : goal.allowance-allowed-requires

@@ -1,7 +1,8 @@
+-- `ticking::send_segments` meets its contract. Assumes nothing.
 use Rattle.table.specs.Layout.{sections_of}
 use Rattle.table.specs.LayoutLaws.{ring_sized}
 use Rattle.ticking.specs.TickingLaws.{send_room_at, segments_sent}
-use borrow.Author.Rules.{rules}
+use Rattle.std.proofs.Common.{rules}
 use Rattle.ticking.proofs.send_segments.Goals as goal
 
 pub send-r-requires : goal.send-r-requires

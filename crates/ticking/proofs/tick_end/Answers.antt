@@ -1,7 +1,6 @@
-use mathlib.Core.Path.{refl}
-use native.Mathlib.Omega.{arith}
+-- `ticking::tick_end` meets its contract. Assumes nothing.
+use Rattle.std.proofs.Common.{refl, arith, rules}
 use Rattle.ticking.specs.TickingLaws.{ack_ready, tick_facts, from_most, send_ready, sent_few, sent_small, sent_size, bytes_most, ticked}
-use borrow.Author.Rules.{rules}
 use Rattle.ticking.proofs.tick_end.Goals as goal
 
 pub ack_first-from-requires : goal.ack_first-from-requires

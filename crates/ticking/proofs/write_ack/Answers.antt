@@ -1,6 +1,7 @@
+-- `ticking::write_ack` meets its contract. Assumes nothing.
 use Rattle.ticking.specs.TickingLaws.{ack_sent}
 use Rattle.table.specs.ReadyLaws.{ready_ranged}
-use borrow.Author.Rules.{rules}
+use Rattle.std.proofs.Common.{rules}
 use Rattle.ticking.proofs.write_ack.Goals as goal
 
 pub position-position-requires : goal.position-position-requires

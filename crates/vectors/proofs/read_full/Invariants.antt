@@ -1,3 +1,4 @@
+-- What lasts in the loop of `vectors::read_full`, and what falls.
 use Rattle.std.proofs.Common.{◌-◌, ◌≤◌, length}
 use Rattle.vectors.proofs.read_full.Given as goal
 

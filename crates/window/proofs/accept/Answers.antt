@@ -1,5 +1,5 @@
-use native.Mathlib.Omega.{arith}
-use borrow.Author.Rules.{rules}
+-- `window::accept` meets its contract. Assumes nothing.
+use Rattle.std.proofs.Common.{arith, rules}
 use Rattle.window.proofs.MarksLaws.{marked_accepts}
 use Rattle.window.proofs.Steps.{Starts, cleared_none, cleared_more, accepted_above, accepted_within}
 use Rattle.window.proofs.accept.Goals as goal

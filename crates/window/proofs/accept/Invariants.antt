@@ -1,6 +1,5 @@
-use Prim.Native.Nat.{◌≤◌, ◌-◌}
-use mathlib.Core.Path.{◌≡◌}
-use lib.ListN.{length}
+-- What lasts in the loop of `window::accept`, and what falls.
+use Rattle.std.proofs.Common.{◌≤◌, ◌-◌, ◌≡◌, length}
 use Rattle.window.specs.Marks.{words}
 use Rattle.window.proofs.Steps.{Starts, Cleared}
 use Rattle.window.proofs.accept.Given as goal

@@ -1,4 +1,5 @@
-use borrow.Author.Rules.{rules}
+-- `window::clear_mark` meets its contract. Assumes nothing.
+use Rattle.std.proofs.Common.{rules}
 use Rattle.window.proofs.Marks.{put_zero}
 use Rattle.window.proofs.clear_mark.Goals as goal
 

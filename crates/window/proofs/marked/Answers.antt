@@ -1,4 +1,5 @@
-use lib.Bits.{and_mask}
+-- `window::marked` meets its contract. Assumes nothing.
+use Rattle.std.specs.Int.Bits.{and_mask}
 use Rattle.laws.specs.Bits.{bit}
 use Rattle.window.specs.Marks.{mark}
 use Rattle.window.proofs.marked.Goals as goal

@@ -1,4 +1,5 @@
-use borrow.Author.Rules.{rules}
+-- `window::verdict` meets its contract. Assumes nothing.
+use Rattle.std.proofs.Common.{rules}
 use Rattle.window.proofs.MarksLaws.{verdicts}
 use Rattle.window.proofs.verdict.Goals as goal
 

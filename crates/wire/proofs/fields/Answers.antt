@@ -1,4 +1,5 @@
-use borrow.Author.Rules.{rules}
+-- `wire::fields` meets its contract. Assumes nothing.
+use Rattle.std.proofs.Common.{rules}
 use Rattle.wire.specs.Reading.{fields_of}
 use Rattle.wire.proofs.fields.Goals as goal
 

@@ -1,7 +1,5 @@
-use mathlib.Core.Path.{◌≡◌, sym, ap, ◌∙◌}
-use Prim.Native.Nat.{ℕ, ◌+◌, ◌-◌}
-use native.Mathlib.Omega.{arith}
-use lib.ListN.{length}
+-- `wire::get_through` meets its contract. Assumes nothing.
+use Rattle.std.proofs.Common.{◌≡◌, ◌∙◌, sym, ap, arith, ℕ, ◌+◌, ◌-◌, length}
 use borrow.Rule.Slice.PartMut.{put_mid}
 use Rattle.laws.specs.Part.{part}
 use Rattle.laws.specs.PartLaws.{part_here, length_part}

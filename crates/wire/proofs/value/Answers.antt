@@ -1,5 +1,5 @@
-use native.Mathlib.Omega.{arith}
-use borrow.Author.Rules.{rules}
+-- `wire::value` meets its contract. Assumes nothing.
+use Rattle.std.proofs.Common.{arith, rules}
 use Rattle.wire.proofs.Numbers.{got_none, got_more, got_room, got_all}
 use Rattle.wire.proofs.value.Goals as goal
 

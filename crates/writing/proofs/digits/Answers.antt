@@ -1,4 +1,5 @@
-use borrow.Author.Rules.{rules}
+-- `writing::digits` meets its contract. Assumes nothing.
+use Rattle.std.proofs.Common.{rules}
 use Rattle.writing.proofs.Bytes.{putting_none, putting_more, putting_all}
 use Rattle.writing.proofs.digits.Goals as goal
 

@@ -1,4 +1,5 @@
-use Prim.Native.Nat.{◌-◌, ◌≤◌}
+-- What lasts in the loop of `writing::digits`, and what falls.
+use Rattle.std.proofs.Common.{◌-◌, ◌≤◌}
 use Rattle.writing.proofs.Bytes.{Putting}
 use Rattle.writing.proofs.digits.Given as goal
 

@@ -1,7 +1,5 @@
-use mathlib.Core.Path.{◌≡◌, ap, ◌∙◌}
-use Prim.Native.Nat.{◌-◌}
-use native.Mathlib.Omega.{arith}
-use lib.ListN.{length}
+-- `writing::put_through` meets its contract. Assumes nothing.
+use Rattle.std.proofs.Common.{◌≡◌, ◌∙◌, ap, arith, ◌-◌, length}
 use Rattle.laws.specs.PartLaws.{part_here}
 use Rattle.wire.specs.DatagramLaws.{be_length}
 use Rattle.writing.proofs.put_through.Goals as goal

@@ -1,4 +1,5 @@
-use native.Mathlib.Omega.{arith}
+-- `writing::write` meets its contract. Assumes nothing.
+use Rattle.std.proofs.Common.{arith}
 use Rattle.laws.specs.OverLaws.{parts_2}
 use Rattle.wire.specs.Datagram.{head_of, start_of, rest_of}
 use Rattle.wire.specs.DatagramLaws.{start_length, rest_length}

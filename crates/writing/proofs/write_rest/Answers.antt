@@ -1,4 +1,5 @@
-use native.Mathlib.Omega.{arith}
+-- `writing::write_rest` meets its contract. Assumes nothing.
+use Rattle.std.proofs.Common.{arith}
 use Rattle.wire.specs.Datagram.{be}
 use Rattle.laws.specs.OverLaws.{parts_3}
 use Rattle.wire.specs.DatagramLaws.{be_length}

@@ -1,5 +1,6 @@
+-- `endpoint::answer::refusal` meets its contract. Assumes nothing.
 use Rattle.endpoint.specs.AnswerLaws.{refusal_fits, refusal_is}
-use borrow.Author.Rules.{rules}
+use Rattle.std.proofs.Common.{rules}
 use Rattle.endpoint.proofs.answer.refusal.Goals as goal
 
 pub overflow_sub-result : goal.overflow_sub-result

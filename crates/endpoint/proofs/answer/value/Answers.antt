@@ -1,5 +1,6 @@
+-- `endpoint::answer::value` meets its contract. Assumes nothing.
 use Rattle.endpoint.specs.AnswerLaws.{value_is}
-use borrow.Author.Rules.{rules}
+use Rattle.std.proofs.Common.{rules}
 use Rattle.endpoint.proofs.answer.value.Goals as goal
 
 pub returns : goal.returns

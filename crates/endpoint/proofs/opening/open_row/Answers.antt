@@ -1,5 +1,6 @@
+-- `endpoint::opening::open_row` meets its contract. Assumes nothing.
 use Rattle.endpoint.specs.Calls.{open_row}
-use borrow.Author.Rules.{rules}
+use Rattle.std.proofs.Common.{rules}
 use Rattle.laws.specs.RowsLaws.{rows}
 use Rattle.endpoint.proofs.opening.open_row.Goals as goal
 

@@ -1,5 +1,5 @@
-use Prim.Native.Nat.{◌-◌, ◌≤◌}
-use lib.ListN.{length}
+-- What lasts in the loop of `script::datagram::count`, and what falls.
+use Rattle.std.proofs.Common.{◌-◌, ◌≤◌, length}
 use Rattle.script.proofs.datagram.count.Given as goal
 
 abbrev pub invariant-loop-at : goal.invariant-loop-at

@@ -1,4 +1,5 @@
-use Prim.Native.Nat.{◌+◌, ◌-◌, ◌≤◌, ◌<◌}
+-- What lasts in the loop of `script::numbers::late`, and what falls.
+use Rattle.std.proofs.Common.{◌+◌, ◌-◌, ◌≤◌, ◌<◌}
 use Rattle.script.proofs.numbers.late.Given as goal
 
 abbrev pub invariant-loop-p : goal.invariant-loop-p

@@ -1,4 +1,5 @@
-use borrow.Author.Rules.{rules}
+-- `script::numbers::offer` meets its contract. Assumes nothing.
+use Rattle.std.proofs.Common.{rules}
 use Rattle.window.proofs.MarksLaws.{new_near, new_some}
 use Rattle.script.proofs.numbers.offer.Goals as goal
 

@@ -1,4 +1,5 @@
-use Prim.Native.Nat.{◌-◌, ◌≤◌}
+-- What lasts in the loop of `script::shown::count`, and what falls.
+use Rattle.std.proofs.Common.{◌-◌, ◌≤◌}
 use Rattle.script.proofs.shown.count.Given as goal
 
 abbrev pub invariant-loop-n : goal.invariant-loop-n

@@ -1,5 +1,5 @@
-use Prim.Native.Nat.{◌-◌, ◌≤◌}
-use lib.ListN.{length}
+-- What lasts in the loop of `vectors::datagram::hear_all`, and what falls.
+use Rattle.std.proofs.Common.{◌-◌, ◌≤◌, length}
 use Rattle.vectors.proofs.datagram.hear_all.Given as goal
 
 abbrev pub invariant-loop-at : goal.invariant-loop-at

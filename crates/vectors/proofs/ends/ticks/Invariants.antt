@@ -1,4 +1,5 @@
-use Prim.Native.Nat.{◌-◌, ◌≤◌}
+-- What lasts in the loop of `vectors::ends::ticks`, and what falls.
+use Rattle.std.proofs.Common.{◌-◌, ◌≤◌}
 use Rattle.vectors.proofs.ends.ticks.Given as goal
 
 abbrev pub invariant-loop-i : goal.invariant-loop-i

@@ -1,5 +1,5 @@
-use Prim.Native.Nat.{◌-◌, ◌≤◌}
-use lib.ListN.{length}
+-- What lasts in the loop of `vectors::show::line`, and what falls.
+use Rattle.std.proofs.Common.{◌-◌, ◌≤◌, length}
 use Rattle.vectors.proofs.show.line.Given as goal
 
 abbrev pub invariant-loop-i : goal.invariant-loop-i

@@ -1,5 +1,5 @@
-use Prim.Native.Nat.{◌-◌, ◌≤◌}
-use lib.ListN.{length}
+-- What lasts in the loop of `vectors::show::datagram::all`, and what falls.
+use Rattle.std.proofs.Common.{◌-◌, ◌≤◌, length}
 use Rattle.vectors.proofs.show.datagram.all.Given as goal
 
 abbrev pub invariant-loop-at : goal.invariant-loop-at
