@@ -8,7 +8,7 @@ use Rattle.ring.specs.Ring.{capacity}
 use Rattle.wire.specs.declared.Header.{Header}
 use Rattle.wire.specs.Datagram.{head_size, payload_most, ceiling}
 use Rattle.wire.specs.Reading.{fields_of, form_of, Fields}
-use Rattle.wire.specs.FormLaws.{WellFormed, form_formed}
+use Rattle.wire.specs.FormLaws.{form_formed}
 use Rattle.window.specs.Window.{width, verdict_of}
 use Rattle.window.specs.Marks.{window_of, Accepts}
 use Rattle.window.proofs.MarksLaws.{new_near, new_some}
