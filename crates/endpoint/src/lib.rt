@@ -73,6 +73,7 @@ pub fn sluice_take(table: &mut [u64], incoming: &[u8], out: &mut [u8], ended: &m
 }
 
 // datagram bytes: one datagram from the network, of any length. Answers 0, or minus the number of its refusal.
+#[tactic(auto, using(crate::specs::SmallLaws::hear_small))]
 pub fn sluice_datagram(
     table: &mut [u64],
     incoming: &mut [u8],
