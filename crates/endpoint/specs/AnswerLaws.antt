@@ -1,10 +1,12 @@
 -- Laws of answers. Assumes nothing.
-use Rattle.std.specs.Prelude.{◌≡◌, refl, ℕ, zero, suc, ◌-◌, ◌<◌, pos, negsuc, ◌-ℤ◌}
+use Rattle.std.specs.Prelude.{◌≡◌, refl, Result, Ok, Err, ℕ, zero, suc, ◌-◌, ◌<◌, pos, negsuc, ◌-ℤ◌}
 use Rattle.std.proofs.Common.{arith, SFits, to_z, of_z}
 use Rattle.std.proofs.Math.IntN.{+ℤ_idl}
 use Rattle.std.specs.Int.{w64}
 use Rattle.std.proofs.lemmas.Int.{to_z_pos, to_z-of_z}
-use Rattle.endpoint.specs.Answer.{answer_of}
+use Rattle.refusals.specs.declared.Refusal.{Refusal}
+use Rattle.refusals.specs.Refusals.{row_of}
+use Rattle.endpoint.specs.Answer.{answer_of, value_of}
 
 minus_answer : (r : ℕ) → pos 0 -ℤ pos r ≡ answer_of r 0
 unfolding answer_of
@@ -36,3 +38,8 @@ pub refusal_below : (r n : ℕ) → (r ≡ 0 → ⊥) → answer_of r n ≡ negs
 unfolding answer_of
 refusal_below zero n h = absurd (h refl)
 refusal_below (suc r) n h = let e : suc r - 1 ≡ r = omega arith in rw e
+
+-- a refusal has no value
+pub refused_answer : (x : Result ℕ Refusal) → (row_of x ≡ 0 → ⊥) → answer_of (row_of x) (value_of x) ≡ answer_of (row_of x) 0
+refused_answer (Ok n) h = absurd (h refl)
+refused_answer (Err r) h = refl

@@ -1,16 +1,36 @@
-// An end on lent buffers: the six calls of 01 section 1, for C and Rust.
+// An end on lent buffers: the six calls of 01 section 1.
 #![tactic(auto)]
 
-mod answer;
-mod opening;
+ghost use Rattle.std.specs.Prelude.{◌≡◌, ℕ, ◌<◌, IfOk};
+ghost use Rattle.refusals.specs.Refusals.{row_of};
+ghost use Rattle.endpoint.specs.Answer.{answer_of, value_of, taken_of, ended_of};
+ghost use Rattle.endpoint.specs.Calls.{open_row, Opens, Gives, Finishes, Hears, Takes, Ticks};
 
-ghost use Rattle.endpoint.specs.Calls.{Opens, Gives, Finishes, Hears, Takes, Ticks};
-
-use answer::{refusal, value};
+use refusals::Refusal;
 use ring::CAPACITY;
-use table::{ready, scalars_in};
+use table::{interval_row, ready, scalars_in, short_row};
 
-// open epoch, R: a fresh end. The table is written in every word that an end relies on, and the marks are cleared.
+// Refusals 10 and 11.
+#[tactic(auto, using(laws::specs::RowsLaws::rows), unfolding(crate::specs::Calls::open_row))]
+fn open_row(
+    interval: u64,
+    table: usize,
+    outgoing: usize,
+    incoming: usize,
+    marks: usize,
+) -> Result<(), Refusal>
+    ensures { row_of result ≡ open_row interval table outgoing incoming marks }
+{
+    interval_row(interval)?;
+    short_row(table, outgoing, incoming)?;
+    if marks < CAPACITY {
+        return Err(Refusal::Short);
+    }
+    Ok(())
+}
+
+/// open epoch, R: a fresh end. The table is written in every word that an end relies on, and the marks are cleared.
+#[tactic(auto, using(crate::specs::OpeningLaws::open_table, crate::specs::OpeningLaws::open_marks))]
 pub fn sluice_open(
     table: &mut [u64],
     outgoing: &[u8],
@@ -18,93 +38,79 @@ pub fn sluice_open(
     marks: &mut [u8],
     epoch: u64,
     interval: u64,
-) -> i64
-    ensures { Opens table.old outgoing.now incoming.now marks.old epoch interval result table.new marks.new }
+) -> Result<(), Refusal>
+    ensures { Opens table.old outgoing.now incoming.now marks.old epoch interval (answer_of (row_of result) 0) table.new marks.new }
 {
-    let no = opening::open_row(
+    open_row(
         interval,
         table.len(),
         outgoing.len(),
         incoming.len(),
         marks.len(),
-    );
-    if no != 0 {
-        return refusal(no);
-    }
+    )?;
     stream::open_end(table, marks, epoch, interval);
-    value(0)
+    Ok(())
 }
 
-// give bytes: takes as many of them, from the first on, as there is room for, and answers how many.
-pub fn sluice_give(table: &mut [u64], outgoing: &mut [u8], bytes: &[u8]) -> i64
-    ensures { Gives table.old outgoing.old bytes.now result table.new outgoing.new }
+/// give bytes: takes as many of them, from the first on, as there is room for, and answers how many.
+#[tactic(auto, using(table::specs::ReadyLaws::readied))]
+pub fn sluice_give(table: &mut [u64], outgoing: &mut [u8], bytes: &[u8]) -> Result<u64, Refusal>
+    ensures gives { Gives table.old outgoing.old bytes.now (answer_of (row_of result) (value_of result)) table.new outgoing.new }
+    ensures small { IfOk result (λ n. n < 4294967296) }
 {
-    let no = ready(table, outgoing.len(), CAPACITY);
-    if no != 0 {
-        return refusal(no);
-    }
-    value(stream::give(table, outgoing, bytes))
+    ready(table, outgoing.len(), CAPACITY)?;
+    Ok(stream::give(table, outgoing, bytes))
 }
 
-// finish: no more bytes will be given.
-pub fn sluice_finish(table: &mut [u64]) -> i64
-    ensures { Finishes table.old result table.new }
+/// finish: no more bytes will be given.
+#[tactic(auto, using(table::specs::ReadyLaws::readied))]
+pub fn sluice_finish(table: &mut [u64]) -> Result<(), Refusal>
+    ensures { Finishes table.old (answer_of (row_of result) 0) table.new }
 {
-    let no = ready(table, CAPACITY, CAPACITY);
-    if no != 0 {
-        return refusal(no);
-    }
+    ready(table, CAPACITY, CAPACITY)?;
     stream::finish(table);
-    value(0)
+    Ok(())
 }
 
-// take: hands up as many of the bytes that are next as out has room for, and answers how many; *ended is 1 where the END has been reached.
-pub fn sluice_take(table: &mut [u64], incoming: &[u8], out: &mut [u8], ended: &mut u8) -> i64
-    ensures { Takes table.old incoming.now out.old ended.old result table.new out.new ended.new }
+/// take: hands up as many of the bytes that are next as out has room for. Answers how many, and whether the END has been reached.
+#[tactic(auto, using(table::specs::ReadyLaws::readied))]
+pub fn sluice_take(
+    table: &mut [u64],
+    incoming: &[u8],
+    out: &mut [u8],
+) -> Result<(u64, bool), Refusal>
+    ensures takes { (e : ℕ) → Takes table.old incoming.now out.old e (answer_of (row_of result) (taken_of result)) table.new out.new (ended_of e result) }
+    ensures small { IfOk result (λ taken. taken.0 < 4294967296) }
 {
-    let no = ready(table, incoming.len(), CAPACITY);
-    if no != 0 {
-        return refusal(no);
-    }
+    ready(table, incoming.len(), CAPACITY)?;
     let before = scalars_in(table);
     let after = stream::take(table, incoming, out);
-    *ended = receiving::ended(after) as u8;
-    value(after.taken - before.taken)
+    Ok((after.taken - before.taken, after.ended()))
 }
 
-// datagram bytes: one datagram from the network, of any length. Answers 0, or minus the number of its refusal.
-#[tactic(auto, using(crate::specs::SmallLaws::hear_small))]
+/// datagram bytes: one datagram from the network, of any length.
+#[tactic(auto, using(table::specs::ReadyLaws::readied, crate::specs::HeardLaws::hear_ready))]
 pub fn sluice_datagram(
     table: &mut [u64],
     incoming: &mut [u8],
     marks: &mut [u8],
     bytes: &[u8],
-) -> i64
-    ensures { Hears table.old incoming.old marks.old bytes.now result table.new incoming.new marks.new }
+) -> Result<(), Refusal>
+    ensures { Hears table.old incoming.old marks.old bytes.now (answer_of (row_of result) 0) table.new incoming.new marks.new }
 {
-    let no = ready(table, incoming.len(), marks.len());
-    if no != 0 {
-        return refusal(no);
-    }
-    let wrong = hearing::hear_row(table, bytes);
-    if wrong != 0 {
-        return refusal(wrong);
-    }
+    ready(table, incoming.len(), marks.len())?;
+    hearing::hear_row(table, bytes)?;
     hearing::hear(table, incoming, marks, bytes);
-    value(0)
+    Ok(())
 }
 
-// tick: the clock moves on by one. Writes the datagrams to be sent now into out, one after the other, and answers their bytes in all.
-pub fn sluice_tick(table: &mut [u64], outgoing: &[u8], out: &mut [u8]) -> i64
-    ensures { Ticks table.old outgoing.now out.old result table.new out.new }
+/// tick: the clock moves on by one. Writes the datagrams to be sent now into out, one after the other, and answers their bytes in all.
+#[tactic(auto, using(table::specs::ReadyLaws::readied))]
+pub fn sluice_tick(table: &mut [u64], outgoing: &[u8], out: &mut [u8]) -> Result<u64, Refusal>
+    ensures ticks { Ticks table.old outgoing.now out.old (answer_of (row_of result) (value_of result)) table.new out.new }
+    ensures small { IfOk result (λ n. n < 4294967296) }
 {
-    let no = ready(table, outgoing.len(), CAPACITY);
-    if no != 0 {
-        return refusal(no);
-    }
-    let short = ticking::output_row(out.len());
-    if short != 0 {
-        return refusal(short);
-    }
-    value(ticking::tick_end(table, outgoing, out))
+    ready(table, outgoing.len(), CAPACITY)?;
+    ticking::output_row(out.len())?;
+    Ok(ticking::tick_end(table, outgoing, out))
 }

@@ -131,3 +131,7 @@ fresh_not u = absurd (let z : ◌≡◌ {A = ℕ} 0 1 = cc in omega arith)
 
 pub fresh_none : {m : List ℕ} {s : Scalars} {e r : ℕ} → e ≤ s.tail → Unmarked m s.low e r → eqb r 0 ≡ true → Fresh m s e
 fresh_none {r = r} h u k = record { before = h; none = u.none (eqb-true r 0 k) }
+
+pub ruleset fresh_laws = (fresh_not, fresh_none)
+
+pub ruleset fill_laws = (none_fills, old_fills, within_fills)

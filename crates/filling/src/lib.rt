@@ -9,17 +9,16 @@ ghost use Rattle.holes.specs.Holes.{Fresh};
 use receiving::Scalars;
 
 // Whether none of the positions from low to e - 1 has arrived.
+#[tactic(auto, using(crate::proofs::FillLaws::fresh_laws))]
 fn fresh(marks: &[u8], s: Scalars, e: u64) -> bool
     requires marks_len { length marks.now ≡ capacity }
     requires low_le_e { (s.low ≤ e) × (e ≤ s.low + capacity) }
     ensures { result ≡ true → Fresh marks.now s e }
 {
-    if s.tail < e {
-        return false;
-    }
-    finding::any(marks, s.low, e) == 0
+    e <= s.tail && !finding::any(marks, s.low, e)
 }
 
+// Its arguments, and those below, stay as they are for the reason at `holes::slow`.
 // In order. Where nothing lies beyond the lowest missing position it is one copy, and no mark is touched.
 fn in_order(ring: &mut [u8], marks: &mut [u8], s: Scalars, p: u64, src: &[u8]) -> Scalars
     requires lent { Lent s ring.old marks.old }
@@ -31,12 +30,10 @@ fn in_order(ring: &mut [u8], marks: &mut [u8], s: Scalars, p: u64, src: &[u8]) -
     if s.high <= s.low {
         arrivals::write(ring, p, src, s.low);
         return Scalars {
-            taken: s.taken,
             low: e,
             tail: e,
             high: e,
-            known: s.known,
-            end: s.end,
+            ..s
         };
     }
     if fresh(marks, s, e) {
@@ -55,12 +52,8 @@ fn beyond(ring: &mut [u8], marks: &mut [u8], s: Scalars, p: u64, src: &[u8]) -> 
     if p == s.high {
         arrivals::write(ring, p, src, p);
         return Scalars {
-            taken: s.taken,
-            low: s.low,
-            tail: s.tail,
             high: p + src.len() as u64,
-            known: s.known,
-            end: s.end,
+            ..s
         };
     }
     if s.high < p {
@@ -70,29 +63,26 @@ fn beyond(ring: &mut [u8], marks: &mut [u8], s: Scalars, p: u64, src: &[u8]) -> 
 }
 
 // A DATA's bytes.
+#[tactic(auto, using(crate::proofs::FillLaws::fill_laws))]
 fn fill(ring: &mut [u8], marks: &mut [u8], s: Scalars, p: u64, src: &[u8]) -> Scalars
     requires lent { Lent s ring.old marks.old }
     requires room { Room s p (length src.now) }
     ensures { Fills ring.old marks.old s p src.now ring.new marks.new result }
 {
-    if src.len() == 0 {
-        return s;
-    }
-    if p + src.len() as u64 <= s.low {
+    let e = p + src.len() as u64;
+    if src.is_empty() || e <= s.low {
         return s;
     }
     if p <= s.low {
         return in_order(ring, marks, s, p, src);
     }
-    if s.tail <= p {
-        if p + src.len() as u64 <= s.high {
-            return s;
-        }
+    if s.tail <= p && e <= s.high {
+        return s;
     }
     beyond(ring, marks, s, p, src)
 }
 
-// An accepted DATA: its bytes, and where e is 1 the END right after them.
+// An accepted DATA: its bytes, and where e, its flags as they came, is 1 the END right after them.
 pub fn hear(ring: &mut [u8], marks: &mut [u8], s: Scalars, p: u64, src: &[u8], e: u64) -> Scalars
     requires lent { Lent s ring.old marks.old }
     requires room { Room s p (length src.now) }
@@ -101,12 +91,9 @@ pub fn hear(ring: &mut [u8], marks: &mut [u8], s: Scalars, p: u64, src: &[u8], e
     let t = fill(ring, marks, s, p, src);
     if e == 1 {
         return Scalars {
-            taken: t.taken,
-            low: t.low,
-            tail: t.tail,
-            high: t.high,
             known: 1,
             end: p + src.len() as u64,
+            ..t
         };
     }
     t

@@ -1,2 +1,3 @@
 -- 01 §5: what is found in a stretch of marks.
 pub mod Finding
+pub mod Search

@@ -1,44 +1,45 @@
 // 01 section 5: marks are searched: single ones up to a whole byte, whole bytes, and single ones after them.
 #![tactic(auto)]
 
-ghost use Rattle.std.specs.Prelude.{◌≡◌, ◌+◌, ◌≤◌, ◌<◌, length};
+mod search;
+
+ghost use Rattle.std.specs.Prelude.{◌≡◌, ◌+◌, ◌≤◌, length};
 ghost use Rattle.ring.specs.Ring.{capacity};
+ghost use Rattle.std.specs.Int.{from_bool};
 ghost use Rattle.marks.specs.Stretches.{Whole, Straight};
 ghost use Rattle.finding.specs.Finding.{Skips, Finds, Runs, Unmarked};
 
 // The first position from a on whose mark is not v, or b, one by one.
-fn find_each(m: &[u8], a: u64, b: u64, v: u8) -> u64
+fn find_each(m: &[u8], a: u64, b: u64, v: bool) -> u64
     requires m_len { length m.now ≡ capacity }
     requires a_le_b { a ≤ b }
-    ensures { Finds m.now v a b result }
+    ensures { Finds m.now (from_bool v) a b result }
 {
-    let mut q = a;
-    while q < b {
+    for q in a..b {
         if marks::test(m, q) != v {
             return q;
         }
-        q += 1;
     }
-    q
+    b
 }
 
 // Passes whole bytes in which each mark is v, none beyond the seam.
-fn skip_bytes(m: &[u8], a: u64, b: u64, v: u8) -> u64
-    requires m_len { (length m.now ≡ capacity) × (v < 2) }
+fn skip_bytes(m: &[u8], a: u64, b: u64, v: bool) -> u64
+    requires m_len { length m.now ≡ capacity }
     requires straight { Straight a b }
-    ensures { Skips m.now v a b result }
+    ensures { Skips m.now (from_bool v) a b result }
 {
     let at = marks::byte(a);
     let n = ((b - a) / 8) as usize;
-    let z = copies::first_other(&m[at..at + n], v * 255, 0) as u64;
-    a + z * 8
+    let passed = search::first_other(&m[at..at + n], marks::eight(v)) as u64;
+    a + passed * 8
 }
 
 // Whole bytes, in two parts at the seam.
-fn skip_whole(m: &[u8], a: u64, b: u64, v: u8) -> u64
-    requires m_len { (length m.now ≡ capacity) × (v < 2) }
+fn skip_whole(m: &[u8], a: u64, b: u64, v: bool) -> u64
+    requires m_len { length m.now ≡ capacity }
     requires whole { Whole a b }
-    ensures { Skips m.now v a b result }
+    ensures { Skips m.now (from_bool v) a b result }
 {
     let s = marks::seam(a, b);
     let l = skip_bytes(m, a, s, v);
@@ -49,10 +50,10 @@ fn skip_whole(m: &[u8], a: u64, b: u64, v: u8) -> u64
 }
 
 // The first position from a on whose mark is not v, or b.
-fn find(m: &[u8], a: u64, b: u64, v: u8) -> u64
-    requires m_len { (length m.now ≡ capacity) × (v < 2) }
+fn find(m: &[u8], a: u64, b: u64, v: bool) -> u64
+    requires m_len { length m.now ≡ capacity }
     requires a_le_b { (a ≤ b) × (b ≤ a + capacity) }
-    ensures { Finds m.now v a b result }
+    ensures { Finds m.now (from_bool v) a b result }
 {
     if b - a < 16 {
         return find_each(m, a, b, v);
@@ -67,26 +68,23 @@ fn find(m: &[u8], a: u64, b: u64, v: u8) -> u64
     find_each(m, z, b, v)
 }
 
-// The first position from low on without a mark, or top. Mostly it is low itself.
+/// The first position from low on without a mark, or top. Mostly it is low itself.
 pub fn run(m: &[u8], low: u64, top: u64) -> u64
     requires m_len { length m.now ≡ capacity }
     requires low_le_top { (low ≤ top) × (top ≤ low + capacity) }
     ensures { Runs m.now low top result }
 {
-    if marks::test(m, low) == 0 {
+    if !marks::test(m, low) {
         return low;
     }
-    find(m, low, top, 1)
+    find(m, low, top, true)
 }
 
-// 0 where no position of a .. b - 1 has a mark.
-pub fn any(m: &[u8], a: u64, b: u64) -> u8
+/// Whether a position of a .. b - 1 has a mark.
+pub fn any(m: &[u8], a: u64, b: u64) -> bool
     requires m_len { length m.now ≡ capacity }
     requires a_le_b { (a ≤ b) × (b ≤ a + capacity) }
-    ensures { Unmarked m.now a b result }
+    ensures { Unmarked m.now a b (from_bool result) }
 {
-    if find(m, a, b, 0) < b {
-        return 1;
-    }
-    0
+    find(m, a, b, false) < b
 }

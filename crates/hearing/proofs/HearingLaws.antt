@@ -70,6 +70,8 @@ module _ (s : Sections) (d : List ℕ) (f : ℕ) (e : f ≡ form_of d) where
   unfolding hear_row
   hear_judge r z k q = miss_row r _ _ f e z (rw k.are at q)
 
+pub ruleset rows = (place_data, place_ack, place_probe, judge_epoch, judge_number, judge_place, hear_form, hear_judge)
+
 -- WHAT AN ANSWER OF 0 SAYS
 pub judged : (s : Sections) (h : Header) → judge_row s h ≡ 0 → Judged s h
 unfolding judge_row
@@ -240,3 +242,5 @@ module _ {t i m d : List ℕ} {h : Header} (f : Fields d h) where
     probe_heard = λ q. x;
     same = λ n. (refl, refl);
   })
+
+pub ruleset heard = (heard_ack, heard_probe)

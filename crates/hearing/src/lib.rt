@@ -2,6 +2,7 @@
 #![tactic(auto)]
 
 ghost use Rattle.std.specs.Prelude.{◌≡◌, ℕ, ◌+◌, ◌≤◌, ◌<◌, length, drop};
+ghost use Rattle.refusals.specs.Refusals.{row_of};
 ghost use Rattle.ring.specs.Ring.{capacity};
 ghost use Rattle.wire.specs.Datagram.{head_size};
 ghost use Rattle.wire.specs.Reading.{fields_of};
@@ -11,54 +12,48 @@ ghost use Rattle.table.specs.ReadyLaws.{Ready};
 ghost use Rattle.hearing.specs.Hearing.{place_row, judge_row, hear_row, Noted, DataDone, AckDone, Heard};
 ghost use Rattle.hearing.specs.Judged.{Judged, Hearing, HearReady};
 
+use refusals::Refusal;
 use sending::Line;
 use table::{
     Common, ENDS, RECEIVES, SENDS, Sends, TIMES, WINDOW, common_in, save_common, save_scalars,
     save_sends, scalars_in, sends_in,
 };
-use wire::Header;
+use wire::{Header, Kind};
 
-// Refusals 7, 8 and 9, or 0.
-fn place(t: &[u64], h: Header) -> u64
+// Refusals 7, 8 and 9.
+#[tactic(auto, using(crate::proofs::HearingLaws::rows, table::specs::ReadyLaws::ready_ranged))]
+fn place(t: &[u64], h: Header) -> Result<(), Refusal>
     requires { (table_words ≤ length t.now) × Ready (sections_of t.now) }
-    ensures { result ≡ place_row (sections_of t.now) h }
+    ensures { row_of result ≡ place_row (sections_of t.now) h }
 {
-    if h.kind == 1 {
-        return receiving::judge(scalars_in(t), h.position, h.length, h.flags);
+    match Kind::try_from(h.kind) {
+        Ok(Kind::Data) => scalars_in(t).judge(h.position, h.length, h.flags),
+        Ok(Kind::Ack) => sending::ack_refusal(sends_in(t).row.next, h.position),
+        _ => Ok(()),
     }
-    if h.kind == 2 {
-        let s = sends_in(t);
-        let row = s.row;
-        return sending::ack_refusal(row.next, h.position);
-    }
-    0
 }
 
-// Refusals 3 to 9, or 0.
-fn judge(t: &[u64], h: Header) -> u64
+// Refusals 3 to 9.
+#[tactic(auto, using(crate::proofs::HearingLaws::rows), unfolding(table::specs::Layout::sections_of))]
+fn judge(t: &[u64], h: Header) -> Result<(), Refusal>
     requires { (table_words ≤ length t.now) × Ready (sections_of t.now) }
-    ensures { result ≡ judge_row (sections_of t.now) h }
+    ensures { row_of result ≡ judge_row (sections_of t.now) h }
 {
     let c = common_in(t);
     if h.epoch != c.epoch {
-        return 3;
+        return Err(Refusal::Epoch);
     }
-    let v = window::verdict(c.high, &t[WINDOW..ENDS], h.number);
-    if v != 0 {
-        return v;
-    }
+    window::verdict(c.high, &t[WINDOW..ENDS], h.number)?;
     place(t, h)
 }
 
-// Refusals 1 to 9, or 0.
-pub fn hear_row(t: &[u64], d: &[u8]) -> u64
+// Refusals 1 to 9.
+#[tactic(auto, using(crate::proofs::HearingLaws::rows, crate::proofs::HearingLaws::form_header))]
+pub fn hear_row(t: &[u64], d: &[u8]) -> Result<(), Refusal>
     requires { (table_words ≤ length t.now) × Ready (sections_of t.now) }
-    ensures { result ≡ hear_row (sections_of t.now) d.now }
+    ensures { row_of result ≡ hear_row (sections_of t.now) d.now }
 {
-    let wrong = form::form(d);
-    if wrong != 0 {
-        return wrong;
-    }
+    form::form(d)?;
     judge(t, wire::fields(d))
 }
 
@@ -69,16 +64,7 @@ fn note(t: &mut [u64], number: u64, due: u64)
 {
     let c = common_in(t);
     let high = window::accept(c.high, &mut t[WINDOW..ENDS], number);
-    let n = Common {
-        opened: c.opened,
-        epoch: c.epoch,
-        interval: c.interval,
-        clock: c.clock,
-        number: c.number,
-        due: due,
-        high: high,
-    };
-    save_common(&mut t[0..SENDS], n);
+    save_common(&mut t[0..SENDS], Common { due, high, ..c });
 }
 
 // An accepted DATA.
@@ -97,8 +83,7 @@ fn data(t: &mut [u64], incoming: &mut [u8], marks: &mut [u8], d: &[u8], h: Heade
         &d[32..],
         h.flags,
     );
-    let number = h.number;
-    note(t, number, 1);
+    note(t, h.number, 1);
     save_scalars(&mut t[RECEIVES..WINDOW], v);
 }
 
@@ -111,38 +96,33 @@ fn ack(t: &mut [u64], h: Header)
     ensures { AckDone t.old h t.new }
 {
     let c = common_in(t);
-    let s = sends_in(t);
-    let row = s.row;
-    let line = s.line;
-    let r = sending::ack(&t[ENDS..TIMES], row, h.position);
-    let g = sending::grant(line.limit, s.probed, h.position + h.credit);
-    let raised = Line {
-        given: line.given,
-        closed: line.closed,
-        limit: g.limit,
-    };
-    let v = Sends {
-        line: raised,
-        row: r,
-        probed: g.probed,
-    };
+    let Sends { line, row, probed } = sends_in(t);
+    let row = sending::ack(&t[ENDS..TIMES], row, h.position);
+    let g = sending::grant(line.limit, probed, h.position + h.credit);
     note(t, h.number, c.due);
-    save_sends(&mut t[SENDS..RECEIVES], v);
+    save_sends(
+        &mut t[SENDS..RECEIVES],
+        Sends {
+            line: Line {
+                limit: g.limit,
+                ..line
+            },
+            row,
+            probed: g.probed,
+        },
+    );
 }
 
 // An accepted datagram.
+#[tactic(auto, using(crate::proofs::HearingLaws::heard))]
 pub fn hear(t: &mut [u64], incoming: &mut [u8], marks: &mut [u8], d: &[u8])
     requires { HearReady t.old (length incoming.old) (length marks.old) d.now }
     ensures { Heard t.old incoming.old marks.old d.now (fields_of d.now) t.new incoming.new marks.new }
 {
     let h = wire::fields(d);
-    if h.kind == 1 {
-        data(t, incoming, marks, d, h);
-        return;
+    match Kind::try_from(h.kind) {
+        Ok(Kind::Data) => data(t, incoming, marks, d, h),
+        Ok(Kind::Ack) => ack(t, h),
+        _ => note(t, h.number, 1),
     }
-    if h.kind == 2 {
-        ack(t, h);
-        return;
-    }
-    note(t, h.number, 1);
 }

@@ -7,23 +7,22 @@ ghost use Rattle.holes.specs.Holes.{Fresh};
 
 use receiving::Scalars;
 
+// The five arguments stay: a struct that holds two `&mut` has to promise in each function that it still holds the same two, and with one of p and src alone each promise says `d.entry.position` for p.
 // Over positions of which some have arrived: the last stretch gets its marks, and is empty after.
 pub fn slow(ring: &mut [u8], marks: &mut [u8], s: Scalars, p: u64, src: &[u8]) -> Scalars
     requires lent { Lent s ring.old marks.old }
     requires new { New s p (length src.now) }
     ensures { Fills ring.old marks.old s p src.now ring.new marks.new result }
 {
-    let top = numbers::most(s.high, p + src.len() as u64);
-    marks::put_all(marks, s.tail, s.high, 1);
+    let top = s.high.max(p + src.len() as u64);
+    marks::put_all(marks, s.tail, s.high, true);
     arrivals::place(ring, marks, p, src, s.low, s.high);
-    let l = arrivals::advance(marks, s.low, top);
+    let low = arrivals::advance(marks, s.low, top);
     Scalars {
-        taken: s.taken,
-        low: l,
+        low,
         tail: top,
         high: top,
-        known: s.known,
-        end: s.end,
+        ..s
     }
 }
 
@@ -34,16 +33,12 @@ pub fn leap(ring: &mut [u8], marks: &mut [u8], s: Scalars, p: u64, src: &[u8]) -
     requires high_lt_p { s.high < p }
     ensures { Fills ring.old marks.old s p src.now ring.new marks.new result }
 {
-    let e = p + src.len() as u64;
     arrivals::write(ring, p, src, p);
-    marks::put_all(marks, s.tail, s.high, 1);
+    marks::put_all(marks, s.tail, s.high, true);
     Scalars {
-        taken: s.taken,
-        low: s.low,
         tail: p,
-        high: e,
-        known: s.known,
-        end: s.end,
+        high: p + src.len() as u64,
+        ..s
     }
 }
 
@@ -55,25 +50,14 @@ pub fn follow(ring: &mut [u8], marks: &mut [u8], s: Scalars, p: u64, src: &[u8])
     requires fresh { Fresh marks.old s (p + length src.now) }
     ensures { Fills ring.old marks.old s p src.now ring.new marks.new result }
 {
-    let e = p + src.len() as u64;
     arrivals::write(ring, p, src, s.low);
-    let l = arrivals::advance(marks, e, s.tail);
-    if l == s.tail {
+    let low = arrivals::advance(marks, p + src.len() as u64, s.tail);
+    if low == s.tail {
         return Scalars {
-            taken: s.taken,
             low: s.high,
             tail: s.high,
-            high: s.high,
-            known: s.known,
-            end: s.end,
+            ..s
         };
     }
-    Scalars {
-        taken: s.taken,
-        low: l,
-        tail: s.tail,
-        high: s.high,
-        known: s.known,
-        end: s.end,
-    }
+    Scalars { low, ..s }
 }

@@ -1,6 +1,6 @@
 -- Laws of a part that was lent and came back as y: `put_mid a k t y` is t with it. Assumes nothing.
 use Rattle.std.specs.Prelude.{◌≡◌, List, ◌++◌, ℕ, ◌+◌, ◌-◌, ◌≤◌, ◌<◌, length, take, drop, get_or}
-use Rattle.std.proofs.Common.{sym, ap, ◌∙◌, append-nil, arith, length-take, length-drop, drop_of_length-le, ext_get_or, get_or-append-add, get_or-take, get_or-drop, take_at, drop_at, drop-drop, length-take-le}
+use Rattle.std.proofs.Common.{refl, [], sym, ap, ◌∙◌, append-nil, arith, length-take, length-drop, drop_of_length-le, ext_get_or, get_or-append-add, get_or-take, get_or-drop, take_at, drop_at, drop-drop, length-take-le, append_assoc, length-append, take-take}
 use Rattle.std.proofs.Math.ListN.{get_or-append}
 use Rattle.std.proofs.lemmas.List.{take-append-le, drop-append-le}
 use Rattle.std.proofs.lemmas.List.Edits.{sets, sets-eq}
@@ -42,6 +42,21 @@ module _ (t y : List ℕ) (a k : ℕ) (fits : a + k ≤ length t) (size : length
       let v : drop (b - (a + k)) (post_of a k t) ≡ drop b t =
       drop-drop (b - (a + k)) k (drop a t) ∙ drop-drop (k + (b - (a + k))) a t ∙ ap (λ (x : ℕ). drop x t) e in
       ap (take n) (sym u ∙ d₃ ∙ v)
+
+-- two parts side by side, lent from the halves of t: it is t with both
+module _ (t x y : List ℕ) (a n m : ℕ) (fits : a + n + m ≤ length t) (size_x : length x ≡ n) (size_y : length y ≡ m) where
+  pub put_halves : (take a (take (a + n) t) ++ (x ++ post_of a (length (take (a + n) t) - a) (take (a + n) t))) ++ (y ++ drop m (drop (a + n) t))
+      ≡ put_mid (a + n) m (put_mid a n t x) y
+  put_halves =
+      let front = take (a + n) t in
+      let none : post_of a (length front - a) front ≡ [] = drop_of_length-le (drop a front) (rw length-drop (omega arith)) in
+      let start : take a front ≡ take a t = take-take a (a + n) t (omega arith) in
+      let size : length (take a t ++ x) ≡ a + n = rw (length-append, length-take-le a t (omega arith)) (omega arith) in
+      let rest : drop n (drop a t) ≡ drop (a + n) t = drop-drop n a t in
+      let whole : put_mid a n t x ≡ (take a t ++ x) ++ drop (a + n) t = rw rest (sym (append_assoc (take a t) x (drop (a + n) t))) in
+      let here : take (a + n) (put_mid a n t x) ≡ take a t ++ x = ap (take (a + n)) whole ∙ take_at (take a t ++ x) (drop (a + n) t) (a + n) size in
+      let after : drop (a + n) (put_mid a n t x) ≡ drop (a + n) t = ap (drop (a + n)) whole ∙ drop_at (take a t ++ x) (drop (a + n) t) (a + n) size in
+      rw (none, start, here, after, append-nil) refl
 
 -- the same, element by element
 past : (x y : List ℕ) (n j : ℕ) → length x ≡ n → get_or (x ++ y) (n + j) 0 ≡ get_or y j 0

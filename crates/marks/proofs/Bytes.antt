@@ -1,14 +1,14 @@
 -- Marks by the byte: one bit changed is one mark put, a byte of 255 or 0 is eight marks. Only here and in the laws of specs is it opened how a mark is kept. Assumes nothing.
-use Rattle.std.proofs.Common.{◌≡◌, ◌∙◌, sym, ap, inl, inr, zero-mul, arith, length-set, length-take, length-drop, ◌⊎◌, ⊎_elim, List, length, set, take, drop, replicate, ℕ, zero, suc, ◌+◌, ◌-◌, ◌*◌, ◌/◌, ◌%◌, ◌^◌, ◌≤◌, ◌<◌, get_or, get_or-set_same, get_or-set_other}
-use Rattle.std.proofs.Math.Nat.{zero-mod}
+use Rattle.std.proofs.Common.{◌≡◌, ◌∙◌, sym, ap, inl, inr, arith, length-set, length-take, length-drop, ◌⊎◌, ⊎_elim, List, length, set, take, drop, replicate, ℕ, ◌+◌, ◌-◌, ◌*◌, ◌/◌, ◌%◌, ◌^◌, ◌≤◌, ◌<◌, get_or, get_or-set_same, get_or-set_other}
 use Rattle.std.proofs.Math.Decide.{ℕ_discrete}
 use Rattle.std.proofs.Math.ListN.{get_or-replicate}
 use Rattle.std.proofs.lemmas.List.{length-replicate}
-use Rattle.std.specs.Int.Bits.{bit_and, bit_or, bit_xor, xor_zero_r, and_mask}
+use Rattle.std.specs.Int.{w8, bit_not}
+use Rattle.std.specs.Int.Bits.{bit_and, bit_or, and_mask}
+use Rattle.std.proofs.lemmas.Nat.Bits.{bit_at_set_same, bit_at_set_other, bit_at_clear_same, bit_at_clear_other}
 use borrow.Rule.Slice.PartMut.{put_mid, same_len_mid}
 use Rattle.laws.specs.Split.{split}
 use Rattle.laws.specs.Bits.{bit}
-use Rattle.laws.specs.BitsLaws.{one_shl, set_here, set_there, clear_here, clear_there}
 use Rattle.laws.specs.PartLaws.{in_part, before_part, after_part}
 use Rattle.ring.specs.Ring.{capacity}
 use Rattle.marks.specs.Marks.{mark}
@@ -16,7 +16,7 @@ use Rattle.marks.specs.ByteLaws.{mark_byte}
 use Rattle.marks.specs.Stretches.{Put, Marked, Straight}
 
 put_byte : (m : List ℕ) (q v w : ℕ) → length m ≡ capacity → bit w (q % 8) ≡ v
-    → ((k : ℕ) → (k ≡ q % 8 → ⊥) → bit w k ≡ bit (get_or m (q % capacity / 8) 0) k)
+    → ((k : ℕ) → k < 8 → (k ≡ q % 8 → ⊥) → bit w k ≡ bit (get_or m (q % capacity / 8) 0) k)
     → Put m q v (set m (q % capacity / 8) w)
 unfolding mark
 put_byte m q v w l here there = record {
@@ -24,29 +24,26 @@ put_byte m q v w l here there = record {
   here = rw (get_or-set_same m (q % capacity / 8) w 0 (omega arith)) here;
   there = λ j ne.
       elim (ℕ_discrete (j % capacity / 8) (q % capacity / 8)) [
-        | yes e ↦ rw (e, get_or-set_same m (q % capacity / 8) w 0 (omega arith)) (there (j % 8) (λ e2. ne (omega arith)))
+        | yes e ↦ rw (e, get_or-set_same m (q % capacity / 8) w 0 (omega arith)) (there (j % 8) (omega arith) (λ e2. ne (omega arith)))
         | no n ↦ rw (get_or-set_other m (q % capacity / 8) (j % capacity / 8) w 0 n)
       ];
 }
 
--- the byte that is stored for v: 1 << k set, and cleared again where v is 0
-put_bit : (m : List ℕ) (q v : ℕ) → length m ≡ capacity → v < 2
-    → Put m q v
-    (set m (q % capacity / 8)
-    (bit_xor (bit_or (get_or m (q % capacity / 8) 0) ((1 * 2 ^ (q % 8)) % 2 ^ 8)) (((1 - v) * 2 ^ (q % 8)) % 2 ^ 8)))
-put_bit m q zero l h =
-    let w = get_or m (q % capacity / 8) 0 in
-    rw (one_shl (q % 8) 8 (omega arith)) (put_byte m q 0 _ l (clear_here w (q % 8)) (clear_there w (q % 8)))
-put_bit m q (suc zero) l h =
-    let w = get_or m (q % capacity / 8) 0 in
-    rw (one_shl (q % 8) 8 (omega arith), zero-mul (2 ^ (q % 8)), zero-mod (2 ^ 8), xor_zero_r (bit_or w (2 ^ (q % 8))))
-    (put_byte m q 1 _ l (set_here w (q % 8)) (set_there w (q % 8)))
-put_bit m q (suc (suc v)) l h = absurd (omega arith)
+-- bit k of its byte set, and cleared
+pub put_set : {m : List ℕ} {q i : ℕ} → length m ≡ capacity → i ≡ q % capacity / 8 → Put m q 1 (set m i (bit_or (get_or m i 0) (1 * 2 ^ (q % 8) % 2 ^ 8)))
+unfolding bit
+put_set {m} {q} l e =
+    rw e
+    (put_byte m q 1 _ l (bit_at_set_same w8 _ (q % 8) (omega arith))
+    (λ k b ne. bit_at_set_other w8 _ (q % 8) (omega arith) k ne))
 
-pub put_mark : {m m' : List ℕ} {q v i : ℕ} → length m ≡ capacity → v < 2 → i ≡ q % capacity / 8
-    → m' ≡ set m i (bit_xor (bit_or (get_or m i 0) ((1 * 2 ^ (q % 8)) % 2 ^ 8)) (((1 - v) * 2 ^ (q % 8)) % 2 ^ 8))
-    → Put m q v m'
-put_mark {m} {m'} {q} {v} l h i e = rw (e, i) (put_bit m q v l h)
+pub put_clear : {m : List ℕ} {q i : ℕ} → length m ≡ capacity → i ≡ q % capacity / 8
+    → Put m q 0 (set m i (bit_and (get_or m i 0) (bit_not w8 (1 * 2 ^ (q % 8) % 2 ^ 8))))
+unfolding bit
+put_clear {m} {q} l e =
+    rw e
+    (put_byte m q 0 _ l (bit_at_clear_same w8 _ (q % 8) (omega arith))
+    (λ k b ne. bit_at_clear_other w8 _ (q % 8) (omega arith) k b ne))
 
 pub read_mark : (m : List ℕ) (q i : ℕ) → i ≡ q % capacity / 8 → bit_and (get_or m i 0 / 2 ^ (q % 8)) 1 ≡ mark m q
 unfolding bit mark

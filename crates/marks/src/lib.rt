@@ -1,97 +1,103 @@
 // 01 section 5: a mark for each position beyond the lowest missing one, a bit each: eight positions are one byte.
 #![tactic(auto)]
 
-ghost use Rattle.std.specs.Prelude.{◌≡◌, ◌+◌, ◌/◌, ◌%◌, ◌≤◌, ◌<◌, length};
+ghost use Rattle.std.specs.Prelude.{◌≡◌, ◌+◌, ◌*◌, ◌/◌, ◌%◌, ◌≤◌, length};
 ghost use Rattle.ring.specs.Ring.{capacity};
+ghost use Rattle.std.specs.Int.{from_bool};
 ghost use Rattle.marks.specs.Marks.{mark};
 ghost use Rattle.marks.specs.Stretches.{Put, Marked, Up, Whole, Straight, Parts};
 
-// The index of the byte that has the mark of q.
+/// The index of the byte that has the mark of q.
 pub fn byte(q: u64) -> usize
     ensures { result ≡ q % capacity / 8 }
 {
     ring::index(q) / 8
 }
 
-// The mark of q: 0 or 1.
-pub fn test(m: &[u8], q: u64) -> u8
+/// Whether q has its mark.
+pub fn test(m: &[u8], q: u64) -> bool
     requires { length m.now ≡ capacity }
-    ensures { result ≡ mark m.now q }
+    ensures { from_bool result ≡ mark m.now q }
 {
-    let i = byte(q);
-    m[i] >> (q % 8) & 1
+    m[byte(q)] >> (q % 8) & 1 == 1
 }
 
-// Sets the mark of q to v: 0 clears it.
-pub fn put(m: &mut [u8], q: u64, v: u8)
+/// Sets the mark of q, or clears it where v is false.
+pub fn put(m: &mut [u8], q: u64, v: bool)
+    requires { length m.old ≡ capacity }
+    ensures { Put m.old q (from_bool v) m.new }
+{
+    let i = byte(q);
+    let bit = 1 << (q % 8);
+    if v {
+        m[i] |= bit;
+    } else {
+        m[i] &= !bit;
+    }
+}
+
+// Sets or clears each mark of a .. b - 1, one by one.
+fn put_each(m: &mut [u8], a: u64, b: u64, v: bool)
     requires m_len { length m.old ≡ capacity }
-    requires v_bound { v < 2 }
-    ensures { Put m.old q v m.new }
-{
-    let i = byte(q);
-    let on: u8 = 1 << (q % 8);
-    let off: u8 = (1 - v) << (q % 8);
-    m[i] = (m[i] | on) ^ off;
-}
-
-// Sets each mark of a .. b - 1 to v, one by one.
-fn put_each(m: &mut [u8], a: u64, b: u64, v: u8)
-    requires m_len { (length m.old ≡ capacity) × (v < 2) }
     requires a_le_b { (a ≤ b) × (b ≤ a + capacity) }
-    ensures { Marked m.old a b v m.new }
+    ensures { Marked m.old a b (from_bool v) m.new }
 {
-    let mut q = a;
-    while q < b {
+    for q in a..b {
         put(m, q, v);
-        q += 1;
     }
 }
 
 // The same where they are whole bytes, none beyond the seam.
-fn put_bytes(m: &mut [u8], a: u64, b: u64, v: u8)
-    requires m_len { (length m.old ≡ capacity) × (v < 2) }
+fn put_bytes(m: &mut [u8], a: u64, b: u64, v: bool)
+    requires m_len { length m.old ≡ capacity }
     requires straight { Straight a b }
-    ensures { Marked m.old a b v m.new }
+    ensures { Marked m.old a b (from_bool v) m.new }
 {
     let at = byte(a);
     let n = ((b - a) / 8) as usize;
-    copies::fill(&mut m[at..at + n], v * 255);
+    m[at..at + n].fill(eight(v));
 }
 
-// The first multiple of 8 from a on.
+/// The byte whose eight marks are all v.
+pub fn eight(v: bool) -> u8
+    ensures { result ≡ from_bool v * 255 }
+{
+    if v { u8::MAX } else { 0 }
+}
+
+/// The first multiple of 8 from a on.
 pub fn up(a: u64, b: u64) -> u64
     requires { a + 16 ≤ b }
     ensures { Up a result }
 {
-    let over = a % 8;
-    if over == 0 { a } else { a + (8 - over) }
+    a.next_multiple_of(8)
 }
 
-// Where whole bytes part: at the seam, or at their end.
+/// Where whole bytes part: at the seam, or at their end.
 pub fn seam(a: u64, b: u64) -> u64
     requires { Whole a b }
     ensures { Parts a b result }
 {
-    let room = (ring::size() - ring::index(a)) as u64;
-    if b - a <= room { b } else { a + room }
+    let room = (ring::CAPACITY - ring::index(a)) as u64;
+    a + room.min(b - a)
 }
 
 // Whole bytes, in two parts at the seam.
-fn put_whole(m: &mut [u8], a: u64, b: u64, v: u8)
-    requires m_len { (length m.old ≡ capacity) × (v < 2) }
+fn put_whole(m: &mut [u8], a: u64, b: u64, v: bool)
+    requires m_len { length m.old ≡ capacity }
     requires whole { Whole a b }
-    ensures { Marked m.old a b v m.new }
+    ensures { Marked m.old a b (from_bool v) m.new }
 {
     let s = seam(a, b);
     put_bytes(m, a, s, v);
     put_bytes(m, s, b, v);
 }
 
-// Sets each mark of a .. b - 1 to v: whole bytes at once, and one by one before and after them.
-pub fn put_all(m: &mut [u8], a: u64, b: u64, v: u8)
-    requires m_len { (length m.old ≡ capacity) × (v < 2) }
+/// Sets or clears each mark of a .. b - 1: whole bytes at once, and one by one before and after them.
+pub fn put_all(m: &mut [u8], a: u64, b: u64, v: bool)
+    requires m_len { length m.old ≡ capacity }
     requires a_le_b { (a ≤ b) × (b ≤ a + capacity) }
-    ensures { Marked m.old a b v m.new }
+    ensures { Marked m.old a b (from_bool v) m.new }
 {
     if b - a < 16 {
         put_each(m, a, b, v);

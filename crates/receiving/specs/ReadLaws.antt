@@ -191,6 +191,8 @@ pub end_none : (known e : ℕ) → known ≡ 0 → end_of known e ≡ none
 unfolding end_of
 end_none known e h = rw h
 
+pub ruleset end_laws = (end_none, end_some)
+
 pub end_at_small : (e : End) (q : ℕ) → end_at e q ≤ 1
 unfolding end_at
 end_at_small none q = omega arith

@@ -103,3 +103,8 @@ unfolding refusal refusal_by
 judge_room s p n e r x y h =
     let w = beyond_zero s.taken p n (row_left (beyond_of s.taken p n) _ (sym x ∙ y)) in
     record { limit = w.limit; small = w.small; few = omega arith }
+
+-- each answer of 8's row, and of 9's
+pub ruleset beyond_laws = (beyond_ceiling, beyond_limit, beyond_within, beyond_none)
+
+pub ruleset misplaced_laws = (unknown_before, unknown_after, unknown_none, known_after, known_elsewhere, known_there, known_none)

@@ -1,16 +1,18 @@
 // 01 section 5: what the scalars of a receiving side tell: refusals 8 and 9, the ACK's position and credit, the END.
 #![tactic(auto)]
 
-ghost use Rattle.std.specs.Prelude.{◌≡◌, ◌≤◌};
-ghost use Rattle.wire.specs.Datagram.{ceiling};
-ghost use Rattle.receiving.specs.Receiving.{end_of, end_at, beyond_of, misplaced_of, Ranged, plausible_of};
+ghost use Rattle.std.specs.Prelude.{◌≡◌, MatchOption};
+ghost use Rattle.std.specs.Int.{from_bool};
+ghost use Rattle.refusals.specs.Refusals.{row_of};
+ghost use Rattle.receiving.specs.Receiving.{none, at, end_of, end_at, beyond_of, misplaced_of, Ranged, plausible_of};
 ghost use Rattle.receiving.specs.Calls.{refusal, ended_by, position_by, credit_by};
 
+use refusals::Refusal;
 use ring::CAPACITY;
 use wire::CEILING;
 
 // Bytes below taken are with the host. low is the lowest missing position, high one more than the highest that has arrived, or taken; all from tail up to high have arrived. end is the END's position where known is not 0.
-#[derive(Clone, Copy)]
+#[derive(Clone, Copy, Default)]
 pub struct Scalars {
     pub taken: u64,
     pub low: u64,
@@ -20,122 +22,98 @@ pub struct Scalars {
     pub end: u64,
 }
 
-// Whether the scalars may be an end's.
-pub fn plausible(s: Scalars) -> bool
-    ensures { result ≡ plausible_of s }
-{
-    if s.low < s.taken {
-        return false;
+// Ranged stays a `requires` and is no invariant of the type: a damaged table has other scalars, which `plausible` is asked about.
+impl Scalars {
+    // Whether they may be an end's.
+    #[tactic(auto, unfolding(crate::specs::Receiving::plausible_of))]
+    pub fn plausible(self) -> bool
+        ensures { result ≡ plausible_of self }
+    {
+        self.taken <= self.low
+            && self.low <= self.tail
+            && self.tail <= self.high
+            && self.high <= CEILING
+            && self.high <= self.taken + CAPACITY as u64
     }
-    if s.tail < s.low {
-        return false;
-    }
-    if s.high < s.tail {
-        return false;
-    }
-    if CEILING < s.high {
-        return false;
-    }
-    s.high <= s.taken + CAPACITY as u64
-}
 
-// 8 where one of n bytes from position p on may not be kept, 0 where all may.
-fn beyond(taken: u64, p: u64, n: u64) -> u64
-    requires { taken ≤ ceiling }
-    ensures { result ≡ beyond_of taken p n }
-{
-    if n == 0 {
-        return 0;
+    // The END's position, where it is known. The fields stay the table's two words: in a damaged table known may be any number.
+    #[tactic(auto, using(crate::specs::ReadLaws::end_laws))]
+    fn end(self) -> Option<u64>
+        ensures { MatchOption result (end_of self.known self.end ≡ none) (λ k. end_of self.known self.end ≡ at k) }
+    {
+        (self.known != 0).then_some(self.end)
     }
-    if CEILING < p {
-        return 8;
-    }
-    if CEILING - p < n {
-        return 8;
-    }
-    if taken + (CAPACITY as u64) < p + n {
-        return 8;
-    }
-    0
-}
 
-// 9 where n bytes that end before q, with an END there where e is 1, contradict what is known; else 0.
-fn misplaced(s: Scalars, q: u64, n: u64, e: u64) -> u64
-    ensures { result ≡ misplaced_of (end_of s.known s.end) s.high q n e }
-{
-    if s.known == 0 {
-        if e != 1 {
-            return 0;
+    // Refuses n bytes from position p on of which one may not be kept.
+    #[tactic(auto, using(crate::specs::RefusalLaws::beyond_laws))]
+    fn beyond(self, p: u64, n: u64) -> Result<(), Refusal>
+        requires { Ranged self }
+        ensures { row_of result ≡ beyond_of self.taken p n }
+    {
+        let limit = CEILING.min(self.taken + CAPACITY as u64);
+        if limit.saturating_sub(p) < n {
+            return Err(Refusal::Credit);
         }
-        if q < s.high {
-            return 9;
+        Ok(())
+    }
+
+    // Refuses n bytes that end before q, with an END there where e is 1, where they contradict what is known.
+    #[tactic(auto, using(crate::specs::RefusalLaws::misplaced_laws))]
+    fn misplaced(self, q: u64, n: u64, e: u64) -> Result<(), Refusal>
+        ensures { row_of result ≡ misplaced_of (end_of self.known self.end) self.high q n e }
+    {
+        let wrong = match self.end() {
+            None => e == 1 && q < self.high,
+            Some(end) => e == 1 && q != end || n != 0 && end < q,
+        };
+        if wrong {
+            return Err(Refusal::End);
         }
-        return 0;
+        Ok(())
     }
-    if e == 1 {
-        if q != s.end {
-            return 9;
-        }
-        return 0;
-    }
-    if n == 0 {
-        return 0;
-    }
-    if s.end < q {
-        return 9;
-    }
-    0
-}
 
-// The refusal of a DATA of n bytes at position p, 8 or 9, or 0.
-pub fn judge(s: Scalars, p: u64, n: u64, e: u64) -> u64
-    requires { Ranged s }
-    ensures { result ≡ refusal s p n e }
-{
-    let b = beyond(s.taken, p, n);
-    if b != 0 {
-        return b;
+    // Judges a DATA of n bytes at position p. e is its flags as they came, of which 1 says END: all is said of any number.
+    #[tactic(auto, using(crate::proofs::JudgeLaws::judge_laws))]
+    pub fn judge(self, p: u64, n: u64, e: u64) -> Result<(), Refusal>
+        requires { Ranged self }
+        ensures { row_of result ≡ refusal self p n e }
+    {
+        self.beyond(p, n)?;
+        self.misplaced(p + n, n, e)
     }
-    misplaced(s, p + n, n, e)
-}
 
-// 1 where the END is known to be at q.
-fn end_at(s: Scalars, q: u64) -> u64
-    ensures { result ≡ end_at (end_of s.known s.end) q }
-{
-    if s.known == 0 {
-        return 0;
+    // Whether the END is known to be at q.
+    #[tactic(auto, unfolding(crate::specs::Receiving::end_at))]
+    fn end_at(self, q: u64) -> bool
+        ensures { from_bool result ≡ end_at (end_of self.known self.end) q }
+    {
+        self.end() == Some(q)
     }
-    if s.end == q {
-        return 1;
+
+    // Whether every byte before the END has been taken.
+    #[tactic(auto, unfolding(crate::specs::Calls::ended_by))]
+    pub fn ended(self) -> bool
+        ensures { from_bool result ≡ ended_by self }
+    {
+        self.end_at(self.taken)
     }
-    0
-}
 
-// 1 where every byte before the END has been taken.
-pub fn ended(s: Scalars) -> u64
-    ensures { result ≡ ended_by s }
-{
-    end_at(s, s.taken)
-}
-
-// The position of an ACK.
-pub fn position(s: Scalars) -> u64
-    requires { Ranged s }
-    ensures { result ≡ position_by s }
-{
-    s.low + end_at(s, s.low)
-}
-
-// The credit of an ACK.
-pub fn credit(s: Scalars) -> u64
-    requires { Ranged s }
-    ensures { result ≡ credit_by s }
-{
-    let limit = s.taken + CAPACITY as u64;
-    let p = position(s);
-    if limit < p {
-        return 0;
+    // The position of an ACK.
+    #[tactic(auto, unfolding(crate::specs::Calls::position_by))]
+    pub fn position(self) -> u64
+        requires { Ranged self }
+        ensures { result ≡ position_by self }
+    {
+        self.low + u64::from(self.end_at(self.low))
     }
-    limit - p
+
+    // The credit of an ACK.
+    #[tactic(auto, unfolding(crate::specs::Calls::credit_by))]
+    pub fn credit(self) -> u64
+        requires { Ranged self }
+        ensures { result ≡ credit_by self }
+    {
+        let limit = self.taken + CAPACITY as u64;
+        limit.saturating_sub(self.position())
+    }
 }

@@ -4,58 +4,51 @@
 ghost use Rattle.std.specs.Prelude.{◌≡◌, ◌-◌, ◌%◌, ◌≤◌, min, length};
 ghost use Rattle.ring.specs.Ring.{capacity, Put, Got};
 
-// The bytes of a ring: the byte of position p stands at p % CAPACITY.
+/// The bytes of a ring: the byte of position p stands at p % CAPACITY.
 pub const CAPACITY: usize = 65536;
 
-// CAPACITY, known to a caller's proof by its contract only: the number itself makes a proof slow.
+/// CAPACITY, known to a caller's proof by its contract only: the number itself makes a proof slow.
 pub fn size() -> usize
     ensures { result ≡ capacity }
 {
     CAPACITY
 }
 
-// The index at which the byte of the position pos stands.
+/// The index at which the byte of the position pos stands.
 pub fn index(pos: u64) -> usize
     ensures { result ≡ pos % capacity }
 {
     (pos % CAPACITY as u64) as usize
 }
 
-// Of n bytes from index at on, those before the end of the ring. The others stand from index 0 on.
+/// Of n bytes from index at on, those before the end of the ring. The others stand from index 0 on.
 pub fn before_seam(at: usize, n: usize) -> usize
     requires { at ≤ capacity }
     ensures { result ≡ min n (capacity - at) }
 {
-    let room = CAPACITY - at;
-    if n <= room { n } else { room }
+    n.min(CAPACITY - at)
 }
 
-// Writes src into the ring from the position pos on.
+/// Writes src into the ring from the position pos on.
 pub fn ring_put(ring: &mut [u8], pos: u64, src: &[u8])
     requires ring_len { length ring.old ≡ capacity }
     requires src_len_bound { length src.now ≤ capacity }
     ensures { Put ring.old pos src.now ring.new }
 {
-    let n = src.len();
     let at = index(pos);
-    let k = before_seam(at, n);
-    let e = at + k;
-    let rest = n - k;
-    copies::copy(&mut ring[at..e], &src[0..k]);
-    copies::copy(&mut ring[0..rest], &src[k..n]);
+    let (before, beyond) = src.split_at(before_seam(at, src.len()));
+    ring[at..at + before.len()].copy_from_slice(before);
+    ring[..beyond.len()].copy_from_slice(beyond);
 }
 
-// Reads dst.len() bytes of the ring from the position pos on.
+/// Reads dst.len() bytes of the ring from the position pos on.
 pub fn ring_get(dst: &mut [u8], ring: &[u8], pos: u64)
     requires ring_len { length ring.now ≡ capacity }
     requires dst_len_bound { length dst.old ≤ capacity }
     ensures { Got ring.now pos (length dst.old) dst.new }
 {
-    let n = dst.len();
     let at = index(pos);
-    let k = before_seam(at, n);
-    let e = at + k;
-    let rest = n - k;
-    copies::copy(&mut dst[0..k], &ring[at..e]);
-    copies::copy(&mut dst[k..n], &ring[0..rest]);
+    let (before, beyond) = dst.split_at_mut(before_seam(at, dst.len()));
+    before.copy_from_slice(&ring[at..at + before.len()]);
+    beyond.copy_from_slice(&ring[..beyond.len()]);
 }

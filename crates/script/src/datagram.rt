@@ -1,59 +1,73 @@
 // Datagrams of a script: made from the fields that a line names, and found in an output.
-ghost use Rattle.std.specs.Prelude.{◌≡◌, ◌+◌, ◌≤◌, length};
+ghost use Rattle.std.specs.Prelude.{◌≡◌, ◌+◌, ◌≤◌, ◌<◌, ◌++◌, length, MatchOption};
+ghost use Rattle.std.specs.Iterator.{at_most};
 
-// Fields that are not named are 0, but the epoch 7 and the length n.
-fn header(line: &[u8], n: usize) -> wire::Header {
-    wire::Header {
-        kind: super::field(line, super::KIND, 0),
-        flags: super::field(line, super::FLAGS, 0),
-        length: super::field(line, super::LENGTH, n as u64),
-        epoch: super::field(line, super::EPOCH, 7),
-        number: super::field(line, super::NUMBER, 0),
-        position: super::field(line, super::POSITION, 0),
-        credit: super::field(line, super::CREDIT, 0),
+use super::Line;
+use refusals::Refusal;
+use wire::Header;
+
+// Fields that are not named are 0, but the epoch 7 and the length that of the payload.
+fn header(line: Line<'_>, payload: usize) -> Header {
+    Header {
+        kind: line.number(b"kind", 0),
+        flags: line.number(b"flags", 0),
+        length: line.number(b"length", payload as u64),
+        epoch: line.number(b"epoch", 7),
+        number: line.number(b"number", 0),
+        position: line.number(b"position", 0),
+        credit: line.number(b"credit", 0),
     }
 }
 
-// The datagram of a line, in the first bytes of d: a header, `bytes N` after it, all of it `cut N`. Answers its size.
-pub fn made(line: &[u8], d: &mut [u8]) -> usize
-    requires { 32 ≤ length d.old }
-    ensures { result ≤ length d.old }
-{
-    let n = super::size(line, super::BYTES, 0, d.len() - 32);
-    writing::write(&mut d[0..32], header(line, n));
-    super::size(line, super::CUT, 32 + n, d.len())
+/// The datagram of a line, in the first `size` bytes.
+#[derive(Clone, Copy)]
+pub struct Datagram {
+    bytes: [u8; 2048],
+    size: usize,
+    ghost within: { size ≤ 2048 },
 }
 
-// What a datagram is made in: its payload is the byte after `of`.
-pub fn blank(line: &[u8]) -> [u8; 2048]
-    ensures { 2048 ≡ length result }
-{
-    [super::letter(line); 2048]
-}
-
-// The verdict on the form of a line's datagram.
-pub fn form(line: &[u8]) -> u64 {
-    let mut d = blank(line);
-    let n = made(line, &mut d);
-    form::form(&d[0..n])
-}
-
-// The size of the datagram at `at`, with its payload as far as out has it.
-pub fn size_at(out: &[u8], at: usize) -> usize
-    requires { at + 32 ≤ length out.now }
-    ensures { (32 ≤ result) × (at + result ≤ length out.now) }
-{
-    let h = wire::fields(&out[at..]);
-    32 + super::least(h.length as usize, out.len() - at - 32)
-}
-
-// How many datagrams an output has.
-pub fn count(out: &[u8]) -> u64 {
-    let mut at: usize = 0;
-    let mut k: u64 = 0;
-    while 32 <= out.len() - at {
-        at += size_at(out, at);
-        k += 1;
+impl Datagram {
+    /// A header, `bytes N` after it, each the byte after `of`, and all of it `cut N`.
+    pub fn new(line: Line<'_>) -> Datagram {
+        let mut bytes = [line.letter(); 2048];
+        let payload = line.size(b"bytes", 0, 2048 - 32);
+        writing::write(&mut bytes[..32], header(line, payload));
+        let size = line.size(b"cut", 32 + payload, 2048);
+        Datagram { bytes, size }
     }
-    k
+
+    pub fn as_slice(&self) -> &[u8] {
+        &self.bytes[..self.size]
+    }
+}
+
+/// The verdict on the form of a line's datagram.
+pub fn form(line: Line<'_>) -> Result<(), Refusal> {
+    form::form(Datagram::new(line).as_slice())
+}
+
+/// The datagrams of an output, each with its payload as far as the output has it.
+#[derive(Clone, Copy)]
+pub struct Datagrams<'a> {
+    pub rest: &'a [u8],
+}
+
+impl<'a> Iterator for Datagrams<'a> {
+    type Item = &'a [u8];
+
+    ghost next_gives = { λ s r t. MatchOption r ((length s.rest.now < 32) × (t ≡ s)) (λ d. (32 ≤ length d.now) × (s.rest.now ≡ d.now ++ t.rest.now)) };
+
+    ghost remaining = { λ s. at_most (length s.rest.now) };
+
+    fn next(&mut self) -> Option<&'a [u8]> {
+        let rest = self.rest;
+        if rest.len() < 32 {
+            return None;
+        }
+        let size = 32 + (wire::fields(rest).length as usize).min(rest.len() - 32);
+        let (datagram, rest) = rest.split_at(size);
+        self.rest = rest;
+        Some(datagram)
+    }
 }

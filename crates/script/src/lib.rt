@@ -1,210 +1,155 @@
-// The script of `vectors`: words and numbers of a line. A word is known by its letters, as digits to the base 256.
+// The script of `vectors`: its lines, and the words and numbers of a line.
 #![tactic(auto)]
 
-ghost use Rattle.std.specs.Prelude.{◌≡◌, ◌≤◌, ◌<◌, length};
+ghost use Rattle.std.specs.Prelude.{◌≡◌, ◌≤◌, ◌<◌, ◌++◌, length, MatchOption, IsTrue};
+ghost use Rattle.std.specs.Iterator.{at_most};
 
 pub mod datagram;
 pub mod numbers;
 pub mod shown;
 
-// For an end.
-pub const NEAR: u64 = 0x6e656172;
-
-pub const FAR: u64 = 0x666172;
-
-pub const OPEN: u64 = 0x6f70656e;
-
-pub const GIVE: u64 = 0x67697665;
-
-pub const FINISH: u64 = 0x66696e697368;
-
-pub const TICK: u64 = 0x7469636b;
-
-pub const TICKS: u64 = 0x7469636b73;
-
-pub const HEAR: u64 = 0x68656172;
-
-pub const HEARS: u64 = 0x6865617273;
-
-pub const TAKE: u64 = 0x74616b65;
-
-// For none.
-pub const COMMENT: u64 = 0x23;
-
-pub const FORM: u64 = 0x666f726d;
-
-pub const NUMBERS: u64 = 0x6e756d62657273;
-
-pub const EDGE: u64 = 0x65646765;
-
-// Before a number, a byte or a text.
-pub const KIND: u64 = 0x6b696e64;
-
-pub const FLAGS: u64 = 0x666c616773;
-
-pub const LENGTH: u64 = 0x6c656e677468;
-
-pub const EPOCH: u64 = 0x65706f6368;
-
-pub const NUMBER: u64 = 0x6e756d626572;
-
-pub const POSITION: u64 = 0x706f736974696f6e;
-
-pub const CREDIT: u64 = 0x637265646974;
-
-pub const BYTES: u64 = 0x6279746573;
-
-pub const CUT: u64 = 0x637574;
-
-pub const OF: u64 = 0x6f66;
-
-pub const LINE: u64 = 0x6c696e65;
-
-pub const R: u64 = 0x52;
-
-pub const D: u64 = 0x44;
-
-pub const WORDS: u64 = 0x776f726473;
-
-pub const ROOM: u64 = 0x726f6f6d;
-
-pub fn least(a: usize, b: usize) -> usize
-    ensures { (result ≤ a) × (result ≤ b) }
-{
-    if a < b { a } else { b }
+/// The pieces of a text, each with the byte that ends it. std's `split_inclusive` keeps what is left to itself, and here `rest` is a line after a word.
+#[derive(Clone, Copy)]
+pub struct Pieces<'a> {
+    pub rest: &'a [u8],
+    end: u8,
 }
 
-fn wide(b: u8) -> u64
-    ensures { result < 256 }
-{
-    b as u64
+impl<'a> Iterator for Pieces<'a> {
+    type Item = &'a [u8];
+
+    ghost next_gives = { λ s r t. MatchOption r ((length s.rest.now ≡ 0) × (t ≡ s)) (λ p. (0 < length p.now) × (s.rest.now ≡ p.now ++ t.rest.now)) };
+
+    ghost remaining = { λ s. at_most (length s.rest.now) };
+
+    fn next(&mut self) -> Option<&'a [u8]> {
+        let rest = self.rest;
+        if rest.is_empty() {
+            return None;
+        }
+        let end = self.end;
+        let size = match rest.iter().position(|b| *b == end) {
+            Some(at) => at + 1,
+            None => rest.len(),
+        };
+        let (piece, rest) = rest.split_at(size);
+        self.rest = rest;
+        Some(piece)
+    }
 }
 
-// The word that begins at `at`; 0 where none does, 1 for one of more than eight letters.
-pub fn word(line: &[u8], at: usize) -> u64 {
-    let mut i = at;
+/// The lines of a script, each with its newline.
+pub fn lines(text: &[u8]) -> Pieces<'_>
+    ensures { result.rest.now ≡ text.now }
+{
+    Pieces {
+        rest: text,
+        end: b'\n',
+    }
+}
+
+// A word's letters: it ends at the first byte that is none.
+fn letters(word: &[u8]) -> &[u8]
+    ensures { length result.now ≤ length word.now }
+{
+    match word.iter().position(|b| *b <= b' ') {
+        Some(at) => &word[..at],
+        None => word,
+    }
+}
+
+/// The digits that a text begins with, as a number below 10^19.
+pub fn decimal(text: &[u8]) -> u64
+    ensures { result < 10000000000000000000 }
+{
     let mut v: u64 = 0;
-    while i < line.len() {
-        let b = wide(line[i]);
-        if b <= 32 {
+    for b in text {
+        if !b.is_ascii_digit() || 1000000000000000000 <= v {
             return v;
         }
-        if 72057594037927936 <= v {
-            return 1;
-        }
-        v = v * 256 + b;
-        i += 1;
+        v = v * 10 + u64::from(*b - b'0');
     }
     v
 }
 
-// The place after the next such byte, or text's end.
-pub fn next(text: &[u8], at: usize, byte: u8) -> usize
-    requires { at < length text.now }
-    ensures { (at < result) × (result ≤ length text.now) }
-{
-    let mut i = at;
-    while i < text.len() {
-        if text[i] == byte {
-            return i + 1;
+/// A line of a script, with its newline where it has one.
+#[derive(Clone, Copy)]
+pub struct Line<'a> {
+    pub bytes: &'a [u8],
+}
+
+impl<'a> Line<'a> {
+    /// The line without its newline.
+    pub fn bare(self) -> &'a [u8]
+        ensures { length result.now ≤ length self.entry.bytes.now }
+    {
+        self.bytes.strip_suffix(b"\n").unwrap_or(self.bytes)
+    }
+
+    /// Its words, each with the space after it.
+    pub fn words(self) -> Pieces<'a>
+        ensures { result.rest.now ≡ self.entry.bytes.now }
+    {
+        Pieces {
+            rest: self.bytes,
+            end: b' ',
         }
-        i += 1;
     }
-    i
-}
 
-// The word after the first space, or 0.
-pub fn second(line: &[u8]) -> u64 {
-    if line.len() == 0 {
-        return 0;
+    /// Its first word.
+    pub fn first(self) -> &'a [u8]
+        ensures { length result.now ≤ length self.entry.bytes.now }
+    {
+        letters(self.bytes)
     }
-    word(line, next(line, 0, b' '))
-}
 
-// The size of a line without its newline.
-pub fn bare(line: &[u8]) -> usize
-    ensures { result ≤ length line.now }
-{
-    let n = line.len();
-    if n == 0 {
-        return 0;
+    /// A comment, or an empty line, which is one too.
+    pub fn is_comment(self) -> bool
+        ensures { length self.entry.bytes.now ≡ 0 → IsTrue result }
+    {
+        self.bare().is_empty() || matches!(self.first(), b"#")
     }
-    if line[n - 1] == b'\n' {
-        return n - 1;
-    }
-    n
-}
 
-// The first word; of an empty line that of a comment.
-pub fn first(line: &[u8]) -> u64 {
-    if bare(line) == 0 {
-        return COMMENT;
+    /// Its second word, which is empty where there is none.
+    pub fn second(self) -> &'a [u8] {
+        letters(self.words().nth(1).unwrap_or(b""))
     }
-    word(line, 0)
-}
 
-// The place after the word w, or line's end.
-pub fn after(line: &[u8], w: u64) -> usize
-    ensures { result ≤ length line.now }
-{
-    let mut at: usize = 0;
-    while at < line.len() {
-        let e = next(line, at, b' ');
-        if word(line, at) == w {
-            return e;
+    /// What follows the word, which is nothing in a line without it.
+    pub fn after(self, word: &[u8]) -> &'a [u8]
+        ensures { length result.now ≤ length self.entry.bytes.now }
+    {
+        let mut words = self.words();
+        while let Some(w) = words.next() {
+            if letters(w) == word {
+                return words.rest;
+            }
         }
-        at = e;
+        b""
     }
-    at
-}
 
-// The digits from `at` on, as a number below 10^19.
-pub fn decimal(line: &[u8], at: usize) -> u64 {
-    let mut i = at;
-    let mut v: u64 = 0;
-    while i < line.len() {
-        let d = wide(line[i]);
-        if d < 48 {
-            return v;
+    /// The number after the word, or `other` in a line without it.
+    pub fn number(self, word: &[u8], other: u64) -> u64 {
+        match self.after(word) {
+            [] => other,
+            rest => decimal(rest),
         }
-        if 57 < d {
-            return v;
-        }
-        if 1000000000000000000 <= v {
-            return v;
-        }
-        v = v * 10 + (d - 48);
-        i += 1;
     }
-    v
-}
 
-// The number after the word w, or `other` in a line without it.
-pub fn field(line: &[u8], w: u64, other: u64) -> u64 {
-    let at = after(line, w);
-    if at < line.len() {
-        return decimal(line, at);
+    /// The same, and `most` where it is more.
+    pub fn size(self, word: &[u8], other: usize, most: usize) -> usize
+        ensures { result ≤ most }
+    {
+        (self.number(word, other as u64) as usize).min(most)
     }
-    other
-}
 
-// The same, and `most` where it is more.
-pub fn size(line: &[u8], w: u64, other: usize, most: usize) -> usize
-    ensures { result ≤ most }
-{
-    least(field(line, w, other as u64) as usize, most)
-}
-
-// The byte after the word `of`, or 0.
-pub fn letter(line: &[u8]) -> u8 {
-    let at = after(line, OF);
-    if at < line.len() {
-        return line[at];
+    /// The byte after the word `of`, or 0.
+    pub fn letter(self) -> u8 {
+        self.after(b"of").first().copied().unwrap_or(0)
     }
-    0
 }
 
-// As many of a byte as `give` can name: a segment's worth more than a buffer has.
+/// As many of a byte as `give` can name: a segment's worth more than a buffer has.
 pub fn many(byte: u8) -> [u8; 66560]
     ensures { 66560 ≡ length result }
 {

@@ -1,50 +1,53 @@
 // Numbers offered to the window of 01 section 4.
-ghost use Rattle.std.specs.Prelude.{◌<◌};
+ghost use Rattle.std.specs.Prelude.{◌≡◌, ◌<◌, OnOk, OnErr};
+ghost use Rattle.window.specs.Marks.{Accepts};
 
+use super::Line;
+use refusals::Refusal;
+
+/// The highest number accepted, and the marks.
 #[derive(Clone, Copy)]
-pub struct Offered {
+pub struct Window {
     pub high: u64,
-    pub verdict: u64,
+    pub marks: [u64; 16],
 }
 
-// One number is offered.
-pub fn offer(h: u64, m: &mut [u64; 16], p: u64) -> Offered {
-    let v = window::verdict(h, m, p);
-    if v != 0 {
-        return Offered {
-            high: h,
-            verdict: v,
-        };
+impl Window {
+    /// One that has accepted no number.
+    pub fn new() -> Window
+        ensures { result.high ≡ 0 }
+    {
+        Window {
+            high: 0,
+            marks: [0; 16],
+        }
     }
-    Offered {
-        high: window::accept(h, m, p),
-        verdict: 0,
+
+    /// One number is offered: it is accepted or refused.
+    pub fn offer(&mut self, p: u64) -> Result<(), Refusal>
+        ensures accepted { OnOk result (Accepts self.old.high self.old.marks p self.new.high self.new.marks) }
+        ensures refused { OnErr result (self.new ≡ self.old) }
+    {
+        window::verdict(self.high, &self.marks, p)?;
+        self.high = window::accept(self.high, &mut self.marks, p);
+        Ok(())
     }
 }
 
-// 32 datagrams in each tick, all of which arrive a tick later but the first, which takes D ticks, 1 to 64: how far behind the highest it comes.
-pub fn behind(line: &[u8]) -> u64
+/// 32 datagrams in each tick, all of which arrive a tick later but the first, which takes D ticks, 1 to 64: how far behind the highest it comes.
+pub fn behind(line: Line<'_>) -> u64
     ensures { result < 65535 }
 {
-    let d = super::size(line, super::D, 1, 64);
-    if d == 0 {
-        return 0;
-    }
-    32 * d as u64 - 1
+    (32 * line.size(b"D", 1, 64) as u64).saturating_sub(1)
 }
 
-// Numbers 2 to behind + 1 have come, then 1: the verdict on it.
-pub fn late(behind: u64) -> u64
+/// Numbers 2 to behind + 1 have come, then 1: the verdict on it.
+pub fn late(behind: u64) -> Result<(), Refusal>
     requires { behind < 65535 }
 {
-    let mut m = [0u64; 16];
-    let mut h: u64 = 0;
-    let mut p: u64 = 2;
-    while p <= behind + 1 {
-        let o = offer(h, &mut m, p);
-        h = o.high;
-        p += 1;
+    let mut window = Window::new();
+    for p in 2..behind + 2 {
+        window.offer(p)?;
     }
-    let last = offer(h, &mut m, 1);
-    last.verdict
+    window.offer(1)
 }

@@ -8,7 +8,7 @@ ghost use Rattle.segments.specs.Steps.{due_of, cut_to};
 
 use wire::PAYLOAD_MOST;
 
-// At most so many segments are kept.
+// At most so many segments are kept. Where they end and when they were sent stand in two lent slices, as the host's table has them.
 pub const SEGMENTS: u64 = 64;
 
 // What a tick has to go by: the clock, R, and how many datagrams may leave.
@@ -27,7 +27,7 @@ pub struct Stamp {
 }
 
 // How far the stream may be cut.
-#[derive(Clone, Copy)]
+#[derive(Clone, Copy, Default)]
 pub struct Line {
     pub given: u64,
     pub closed: u64,
@@ -35,7 +35,7 @@ pub struct Line {
 }
 
 // The segments: where the oldest starts, where the next will, the oldest one's place in the tables, and how many are kept.
-#[derive(Clone, Copy)]
+#[derive(Clone, Copy, Default)]
 pub struct Row {
     pub acked: u64,
     pub next: u64,
@@ -59,47 +59,48 @@ pub struct Added {
     pub kept: u64,
 }
 
-// The place in the tables of the segment after i older ones.
-pub fn place(p: Row, i: u64) -> usize
-    requires { (p.oldest < segments_most) × ((p.kept ≤ segments_most) × (i ≤ segments_most)) }
-    ensures { result ≡ (p.oldest + i) % segments_most }
-{
-    ((p.oldest + i) % SEGMENTS) as usize
-}
-
-// Whether a segment sent last in tick at is due, and allowed after n others.
-pub fn due(w: Tick, at: u64, n: u64) -> bool
-    ensures { result ≡ due_of w at n }
-{
-    if w.every <= numbers::minus(w.now, at) {
-        n < w.allowed
-    } else {
-        false
+impl Row {
+    // The place in the tables of the segment after i older ones.
+    pub fn place(self, i: u64) -> usize
+        requires { (self.oldest < segments_most) × ((self.kept ≤ segments_most) × (i ≤ segments_most)) }
+        ensures { result ≡ (self.oldest + i) % segments_most }
+    {
+        ((self.oldest + i) % SEGMENTS) as usize
     }
 }
 
-// How many bytes a segment from a on would carry.
-fn new_bytes(l: Line, a: u64) -> u64
-    ensures { result ≡ min payload_most (min (l.given - a) (l.limit - a)) }
-{
-    numbers::least(
-        PAYLOAD_MOST,
-        numbers::least(numbers::minus(l.given, a), numbers::minus(l.limit, a)),
-    )
+impl Tick {
+    // Whether a segment sent last in tick at is due, and allowed after n others.
+    #[tactic(auto, unfolding(crate::specs::Steps::due_of))]
+    pub fn due(self, at: u64, n: u64) -> bool
+        ensures { result ≡ due_of self at n }
+    {
+        self.every <= self.now.saturating_sub(at) && n < self.allowed
+    }
 }
 
-// Where a segment from a on would end.
-pub fn cut_to(l: Line, a: u64) -> u64
-    requires { l.given ≤ ceiling }
-    ensures { result ≡ cut_to l a }
-{
-    let n = new_bytes(l, a);
-    let to = a + n;
-    if l.closed == 1 {
-        if to == l.given {
-            return to + 1;
+impl Line {
+    // How many bytes a segment from a on would carry.
+    fn new_bytes(self, a: u64) -> u64
+        ensures { result ≡ min payload_most (min (self.given - a) (self.limit - a)) }
+    {
+        self.given
+            .min(self.limit)
+            .saturating_sub(a)
+            .min(PAYLOAD_MOST)
+    }
+
+    // Where a segment from a on would end.
+    #[tactic(auto, unfolding(crate::specs::Steps::cut_to))]
+    pub fn cut_to(self, a: u64) -> u64
+        requires { self.given ≤ ceiling }
+        ensures { result ≡ cut_to self a }
+    {
+        let to = a + self.new_bytes(a);
+        if self.closed == 1 && to == self.given {
+            to + 1
+        } else {
+            to
         }
-        return to;
     }
-    to
 }

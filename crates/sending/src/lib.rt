@@ -4,12 +4,14 @@
 ghost use Rattle.std.specs.Prelude.{◌≡◌, ◌+◌, ◌*◌, ◌≤◌, length};
 ghost use Rattle.ring.specs.Ring.{capacity};
 ghost use Rattle.segments.specs.Segments.{segments_most};
+ghost use Rattle.refusals.specs.Refusals.{row_of};
 ghost use Rattle.sending.specs.Giving.{room_of};
 ghost use Rattle.sending.specs.Acking.{ack_refusal};
 ghost use Rattle.sending.specs.Steps.{ago_of, probes_of};
 ghost use Rattle.sending.specs.Buffers.{word_of, Plausible, fresh_line, fresh_row};
 ghost use Rattle.sending.specs.Outcome.{Acked, Granted, Gave, Tells};
 
+use refusals::Refusal;
 use ring::CAPACITY;
 use segments::SEGMENTS;
 pub use segments::{Line, Row, Stamp, Tick};
@@ -25,69 +27,55 @@ pub struct Sent {
     pub probed: u64,
 }
 
-// The limit, and one more than the tick of the last PROBE since room ran out.
+// The limit, and the last PROBE since room ran out as the table's word: one more than its tick, or 0 for none. It stays a number: a tick of 2^64 - 1, which an Option could hold, has no word.
 #[derive(Clone, Copy)]
 pub struct Credit {
     pub limit: u64,
     pub probed: u64,
 }
 
+#[tactic(auto, unfolding(crate::specs::Buffers::fresh_line))]
 pub fn fresh_line() -> Line
     ensures { result ≡ fresh_line }
 {
     Line {
-        given: 0,
-        closed: 0,
         limit: CAPACITY as u64,
+        ..Line::default()
     }
 }
 
+#[tactic(auto, unfolding(crate::specs::Buffers::fresh_row))]
 pub fn fresh_row() -> Row
     ensures { result ≡ fresh_row }
 {
-    Row {
-        acked: 0,
-        next: 0,
-        oldest: 0,
-        kept: 0,
-    }
+    Row::default()
 }
 
 // Whether the scalars can be a sending side's.
 pub fn plausible(l: Line, p: Row) -> bool
     ensures { Tells result (Plausible l p) }
 {
-    if CEILING < l.given {
-        return false;
-    }
-    if 1 < l.closed {
-        return false;
-    }
-    if p.next < p.acked {
-        return false;
-    }
-    if l.given + 1 < p.next {
-        return false;
-    }
-    if (CAPACITY as u64) < numbers::minus(l.given, p.acked) {
-        return false;
-    }
-    if SEGMENTS <= p.oldest {
-        return false;
-    }
-    p.kept <= SEGMENTS
+    l.given <= CEILING
+        && l.closed <= 1
+        && p.acked <= p.next
+        && p.next <= l.given + 1
+        && l.given.saturating_sub(p.acked) <= CAPACITY as u64
+        && p.oldest < SEGMENTS
+        && p.kept <= SEGMENTS
 }
 
+// How many bytes there is room for: none after finish.
+#[tactic(auto, unfolding(crate::specs::Giving::room_of))]
 fn room(l: Line, acked: u64) -> u64
     ensures { result ≡ room_of l acked }
 {
-    if l.closed != 1 {
-        return numbers::least(
-            numbers::minus(CAPACITY as u64, numbers::minus(l.given, acked)),
-            numbers::minus(CEILING, l.given),
-        );
+    if l.closed == 1 {
+        return 0;
     }
-    0
+    let held = l.given.saturating_sub(acked);
+    (CAPACITY as u64)
+        .saturating_sub(held)
+        .min(CEILING.saturating_sub(l.given))
 }
 
 // Takes as many of the bytes as there is room for, and answers how many.
@@ -95,9 +83,8 @@ pub fn give(ring: &mut [u8], l: Line, acked: u64, bytes: &[u8]) -> u64
     requires { length ring.old ≡ capacity }
     ensures { Gave l acked ring.old bytes.now result ring.new }
 {
-    let n = numbers::least(bytes.len() as u64, room(l, acked));
-    let k = n as usize;
-    ring::ring_put(ring, l.given, &bytes[0..k]);
+    let n = room(l, acked).min(bytes.len() as u64);
+    ring::ring_put(ring, l.given, &bytes[..n as usize]);
     n
 }
 
@@ -105,52 +92,50 @@ pub fn give(ring: &mut [u8], l: Line, acked: u64, bytes: &[u8]) -> u64
 pub fn finish(l: Line) -> Line
     ensures { result ≡ record { given = l.given; closed = 1; limit = l.limit } }
 {
-    Line {
-        given: l.given,
-        closed: 1,
-        limit: l.limit,
-    }
+    Line { closed: 1, ..l }
 }
 
-// Row 7 for an ACK.
-pub fn ack_refusal(next: u64, position: u64) -> u64
-    ensures { result ≡ ack_refusal next position }
+// Refuses an ACK at a position that was never sent.
+#[tactic(auto, unfolding(laws::specs::Rows::when))]
+pub fn ack_refusal(next: u64, position: u64) -> Result<(), Refusal>
+    ensures { row_of result ≡ ack_refusal next position }
 {
-    if next < position { 7 } else { 0 }
+    if next < position {
+        return Err(Refusal::NeverSent);
+    }
+    Ok(())
 }
 
 // An ACK at a position: drops the oldest segments that end there or before.
+#[tactic(auto, using(crate::proofs::Acking::acking_laws))]
 pub fn ack(ends: &[u64], p: Row, position: u64) -> Row
     requires { (length ends.now ≡ segments_most) × (p.oldest + p.kept ≤ 2 * segments_most) }
     ensures { Acked ends.now p position result }
 {
     let mut acked = p.acked;
-    let mut o = p.oldest;
-    let mut k = p.kept;
-    while 0 < k {
-        let at = (o % SEGMENTS) as usize;
-        let to = ends[at];
+    for i in 0..p.kept {
+        let oldest = (p.oldest + i) % SEGMENTS;
+        let to = ends[oldest as usize];
         if position < to {
             return Row {
-                acked: acked,
-                next: p.next,
-                oldest: o % SEGMENTS,
-                kept: k,
+                acked,
+                oldest,
+                kept: p.kept - i,
+                ..p
             };
         }
         acked = to;
-        o += 1;
-        k -= 1;
     }
     Row {
-        acked: acked,
-        next: p.next,
-        oldest: o % SEGMENTS,
-        kept: k,
+        acked,
+        oldest: (p.oldest + p.kept) % SEGMENTS,
+        kept: 0,
+        ..p
     }
 }
 
 // An ACK that grants credit up to `top`, its position + credit: the limit never falls, and where it rises a PROBE is forgotten.
+#[tactic(auto, unfolding(crate::specs::Buffers::word_of))]
 pub fn grant(limit: u64, probed: u64, top: u64) -> Credit
     ensures { Granted limit probed top result }
 {
@@ -160,37 +145,24 @@ pub fn grant(limit: u64, probed: u64, top: u64) -> Credit
             probed: 0,
         };
     }
-    Credit {
-        limit: limit,
-        probed: probed,
-    }
+    Credit { limit, probed }
 }
 
 // Whether the last PROBE was R ticks ago or more, or none was sent.
+#[tactic(auto, unfolding(crate::specs::Steps::ago_of, crate::specs::Buffers::word_of))]
 fn ago(w: Tick, probed: u64) -> bool
     ensures { result ≡ ago_of w (word_of probed) }
 {
-    if probed == 0 {
-        return true;
+    match probed.checked_sub(1) {
+        None => true,
+        Some(at) => w.every <= w.now.saturating_sub(at),
     }
-    w.every <= numbers::minus(w.now, probed - 1)
 }
 
 // Whether a PROBE is to leave, after `sent` others.
+#[tactic(auto, unfolding(crate::specs::Steps::probes_of))]
 pub fn probes(w: Tick, l: Line, probed: u64, next: u64, kept: u64, sent: u64) -> bool
     ensures { result ≡ probes_of w l (word_of probed) next kept sent }
 {
-    if l.given <= next {
-        return false;
-    }
-    if kept != 0 {
-        return false;
-    }
-    if next < l.limit {
-        return false;
-    }
-    if w.allowed <= sent {
-        return false;
-    }
-    ago(w, probed)
+    next < l.given && kept == 0 && l.limit <= next && sent < w.allowed && ago(w, probed)
 }

@@ -118,11 +118,6 @@ module _ {w : Tick} {e : Stamp} {l : Line} {p : Row} {ring ends times out : List
     kept = r.kept;
   })
 
-  pub cutting_all : w.allowed ≤ n → Cuts w e l p ring ends times out (record { bytes = o; count = n; next = a; kept = k }) b t x
-  cutting_all h =
-      let q : w.allowed ≡ n = omega (arith, r.few) in
-      done (ap (λ (i : ℕ). cut_of w l (span ring) i (begun p ends times)) q)
-
   pub cutting_full : segments_most ≤ k → Cuts w e l p ring ends times out (record { bytes = o; count = n; next = a; kept = k }) b t x
   cutting_full h = done (cut_stays w l (span ring) n w.allowed _ r.few (cut_full w l (span ring) _ (omega (arith, r.holds.many))))
 

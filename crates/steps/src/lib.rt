@@ -4,167 +4,137 @@
 ghost use Rattle.segments.specs.Outcome.{Room, Resends, Cuts, Both};
 ghost use Rattle.sending.specs.Outcome.{Sends};
 
-use segments::{Added, Line, Row, SEGMENTS, Stamp, Tick, Wrote, cut_to, due, place};
+use segments::{Added, Line, Row, SEGMENTS, Stamp, Tick, Wrote};
 use sending::Sent;
 
-// Step 2: sends again what is due, the oldest first.
-fn resend(
-    out: &mut [u8],
-    ring: &[u8],
-    ends: &[u64],
-    times: &mut [u64],
-    w: Tick,
-    e: Stamp,
-    l: Line,
-    p: Row,
-) -> Wrote
-    requires { Room w e l p out.old ring.now ends.now times.old }
-    ensures { Resends w e l p ring.now ends.now times.old out.old result times.new out.new }
-{
-    let mut i: u64 = 0;
-    let mut from = p.acked;
-    let mut o: usize = 0;
-    let mut n: u64 = 0;
-    while i < p.kept {
-        if w.allowed <= n {
-            return Wrote { bytes: o, count: n };
-        }
-        let at = place(p, i);
-        let to = ends[at];
-        if due(w, times[at], n) {
-            let m = output::send_data(out, o, ring, e.epoch, e.number + n + 1, l.given, from, to);
-            times[at] = w.now;
-            o += m;
-            n += 1;
+// What the steps of a tick go by. The lent slices stay arguments, and Room, which speaks of their lengths, a `requires`: step 2 only reads the ends that step 3 writes, and step 3 has the rest of out.
+#[derive(Clone, Copy)]
+pub struct Step {
+    pub tick: Tick,
+    pub stamp: Stamp,
+    pub line: Line,
+    pub row: Row,
+}
+
+impl Step {
+    // Step 2: sends again what is due, the oldest first.
+    fn resend(self, out: &mut [u8], ring: &[u8], ends: &[u64], times: &mut [u64]) -> Wrote
+        requires { Room self.tick self.stamp self.line self.row out.old ring.now ends.now times.old }
+        ensures { Resends self.tick self.stamp self.line self.row ring.now ends.now times.old out.old result times.new out.new }
+    {
+        let e = self.stamp;
+        let mut from = self.row.acked;
+        let mut bytes: usize = 0;
+        let mut count: u64 = 0;
+        for i in 0..self.row.kept {
+            if self.tick.allowed <= count {
+                break;
+            }
+            let at = self.row.place(i);
+            let to = ends[at];
+            if self.tick.due(times[at], count) {
+                let number = e.number + count + 1;
+                let given = self.line.given;
+                bytes += output::send_data(out, bytes, ring, e.epoch, number, given, from, to);
+                times[at] = self.tick.now;
+                count += 1;
+            }
             from = to;
-            i += 1;
-            continue;
         }
-        from = to;
-        i += 1;
+        Wrote { bytes, count }
     }
-    Wrote { bytes: o, count: n }
-}
 
-// Step 3: cuts and sends new segments.
-fn cut(
-    out: &mut [u8],
-    ring: &[u8],
-    ends: &mut [u64],
-    times: &mut [u64],
-    w: Tick,
-    e: Stamp,
-    l: Line,
-    p: Row,
-) -> Added
-    requires { Room w e l p out.old ring.now ends.old times.old }
-    ensures { Cuts w e l p ring.now ends.old times.old out.old result ends.new times.new out.new }
-{
-    let mut a = p.next;
-    let mut k = p.kept;
-    let mut o: usize = 0;
-    let mut n: u64 = 0;
-    while n < w.allowed {
-        if SEGMENTS <= k {
-            return Added {
-                bytes: o,
-                count: n,
-                next: a,
-                kept: k,
-            };
+    // Step 3: cuts and sends new segments.
+    fn cut(self, out: &mut [u8], ring: &[u8], ends: &mut [u64], times: &mut [u64]) -> Added
+        requires { Room self.tick self.stamp self.line self.row out.old ring.now ends.old times.old }
+        ensures { Cuts self.tick self.stamp self.line self.row ring.now ends.old times.old out.old result ends.new times.new out.new }
+    {
+        let e = self.stamp;
+        let mut next = self.row.next;
+        let mut kept = self.row.kept;
+        let mut bytes: usize = 0;
+        for count in 0..self.tick.allowed {
+            let to = self.line.cut_to(next);
+            if SEGMENTS <= kept || to <= next {
+                return Added {
+                    bytes,
+                    count,
+                    next,
+                    kept,
+                };
+            }
+            let number = e.number + count + 1;
+            let given = self.line.given;
+            bytes += output::send_data(out, bytes, ring, e.epoch, number, given, next, to);
+            let at = self.row.place(kept);
+            ends[at] = to;
+            times[at] = self.tick.now;
+            next = to;
+            kept += 1;
         }
-        let to = cut_to(l, a);
-        if to <= a {
-            return Added {
-                bytes: o,
-                count: n,
-                next: a,
-                kept: k,
-            };
+        Added {
+            bytes,
+            count: self.tick.allowed,
+            next,
+            kept,
         }
-        let m = output::send_data(out, o, ring, e.epoch, e.number + n + 1, l.given, a, to);
-        let at = place(p, k);
-        ends[at] = to;
-        times[at] = w.now;
-        a = to;
-        k += 1;
-        o += m;
-        n += 1;
     }
-    Added {
-        bytes: o,
-        count: n,
-        next: a,
-        kept: k,
-    }
-}
 
-// Steps 2 and 3.
-fn resend_cut(
-    out: &mut [u8],
-    ring: &[u8],
-    ends: &mut [u64],
-    times: &mut [u64],
-    w: Tick,
-    e: Stamp,
-    l: Line,
-    p: Row,
-) -> Added
-    requires { Room w e l p out.old ring.now ends.old times.old }
-    ensures { Both w e l p ring.now ends.old times.old out.old result ends.new times.new out.new }
-{
-    let r = resend(out, ring, ends, times, w, e, l, p);
-    let v = Tick {
-        now: w.now,
-        every: w.every,
-        allowed: w.allowed - r.count,
-    };
-    let f = Stamp {
-        epoch: e.epoch,
-        number: e.number + r.count,
-    };
-    let at = r.bytes;
-    let end = out.len();
-    let c = cut(&mut out[at..end], ring, ends, times, v, f, l, p);
-    Added {
-        bytes: r.bytes + c.bytes,
-        count: r.count + c.count,
-        next: c.next,
-        kept: c.kept,
+    // Steps 2 and 3.
+    fn resend_cut(self, out: &mut [u8], ring: &[u8], ends: &mut [u64], times: &mut [u64]) -> Added
+        requires { Room self.tick self.stamp self.line self.row out.old ring.now ends.old times.old }
+        ensures { Both self.tick self.stamp self.line self.row ring.now ends.old times.old out.old result ends.new times.new out.new }
+    {
+        let r = self.resend(out, ring, ends, times);
+        let rest = Step {
+            tick: Tick {
+                allowed: self.tick.allowed - r.count,
+                ..self.tick
+            },
+            stamp: Stamp {
+                number: self.stamp.number + r.count,
+                ..self.stamp
+            },
+            ..self
+        };
+        let c = rest.cut(&mut out[r.bytes..], ring, ends, times);
+        Added {
+            bytes: r.bytes + c.bytes,
+            count: r.count + c.count,
+            ..c
+        }
     }
-}
 
-// Steps 2, 3 and 4 of a tick: writes the datagrams one after the other into out.
-pub fn send(
-    out: &mut [u8],
-    ring: &[u8],
-    ends: &mut [u64],
-    times: &mut [u64],
-    w: Tick,
-    e: Stamp,
-    l: Line,
-    p: Row,
-    probed: u64,
-) -> Sent
-    requires { Room w e l p out.old ring.now ends.old times.old }
-    ensures { Sends w e l p probed ring.now ends.old times.old out.old result ends.new times.new out.new }
-{
-    let c = resend_cut(out, ring, ends, times, w, e, l, p);
-    if sending::probes(w, l, probed, c.next, c.kept, c.count) {
-        let m = output::send_probe(out, c.bytes, e.epoch, e.number + c.count + 1, c.next);
-        return Sent {
-            bytes: c.bytes + m,
-            count: c.count + 1,
+    // Steps 2, 3 and 4 of a tick: writes the datagrams one after the other into out. probed is the last PROBE, as the table has it.
+    pub fn send(
+        self,
+        probed: u64,
+        out: &mut [u8],
+        ring: &[u8],
+        ends: &mut [u64],
+        times: &mut [u64],
+    ) -> Sent
+        requires { Room self.tick self.stamp self.line self.row out.old ring.now ends.old times.old }
+        ensures { Sends self.tick self.stamp self.line self.row probed ring.now ends.old times.old out.old result ends.new times.new out.new }
+    {
+        let c = self.resend_cut(out, ring, ends, times);
+        let sent = Sent {
+            bytes: c.bytes,
+            count: c.count,
             next: c.next,
             kept: c.kept,
-            probed: w.now + 1,
+            probed,
         };
-    }
-    Sent {
-        bytes: c.bytes,
-        count: c.count,
-        next: c.next,
-        kept: c.kept,
-        probed: probed,
+        if sending::probes(self.tick, self.line, probed, c.next, c.kept, c.count) {
+            let number = self.stamp.number + c.count + 1;
+            let m = output::send_probe(out, c.bytes, self.stamp.epoch, number, c.next);
+            return Sent {
+                bytes: c.bytes + m,
+                count: c.count + 1,
+                probed: self.tick.now + 1,
+                ..sent
+            };
+        }
+        sent
     }
 }

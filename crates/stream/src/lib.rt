@@ -33,18 +33,16 @@ pub fn open_end(t: &mut [u64], marks: &mut [u8], epoch: u64, interval: u64)
     let v = taking::start(&mut marks[0..k]);
     let c = Common {
         opened: 1,
-        epoch: epoch,
-        interval: interval,
+        epoch,
+        interval,
         clock: 0,
         number: 0,
         due: 0,
         high: 0,
     };
-    let line = sending::fresh_line();
-    let row = sending::fresh_row();
     let s = Sends {
-        line: line,
-        row: row,
+        line: sending::fresh_line(),
+        row: sending::fresh_row(),
         probed: 0,
     };
     save_all(t, c, s, v);
@@ -55,14 +53,8 @@ pub fn finish(t: &mut [u64])
     ensures { Finished t.old t.new }
 {
     let s = sends_in(t);
-    let row = s.row;
     let line = sending::finish(s.line);
-    let v = Sends {
-        line: line,
-        row: row,
-        probed: s.probed,
-    };
-    save_sends(&mut t[SENDS..RECEIVES], v);
+    save_sends(&mut t[SENDS..RECEIVES], Sends { line, ..s });
 }
 
 pub fn give(t: &mut [u64], outgoing: &mut [u8], bytes: &[u8]) -> u64
@@ -71,21 +63,13 @@ pub fn give(t: &mut [u64], outgoing: &mut [u8], bytes: &[u8]) -> u64
     ensures { Gave t.old outgoing.old bytes.now result t.new outgoing.new }
 {
     let s = sends_in(t);
-    let row = s.row;
-    let line = s.line;
     let k = ring::size();
-    let n = sending::give(&mut outgoing[0..k], line, row.acked, bytes);
-    let longer = Line {
-        given: line.given + n,
-        closed: line.closed,
-        limit: line.limit,
+    let n = sending::give(&mut outgoing[0..k], s.line, s.row.acked, bytes);
+    let line = Line {
+        given: s.line.given + n,
+        ..s.line
     };
-    let v = Sends {
-        line: longer,
-        row: row,
-        probed: s.probed,
-    };
-    save_sends(&mut t[SENDS..RECEIVES], v);
+    save_sends(&mut t[SENDS..RECEIVES], Sends { line, ..s });
     n
 }
 

@@ -1,9 +1,11 @@
 -- Laws of the table: what was saved is what is loaded, and nothing else moves. Assumes nothing.
-use Rattle.std.specs.Prelude.{◌≡◌, refl, List, ℕ, ◌+◌, ◌-◌, ◌≤◌}
+use Rattle.std.specs.Prelude.{◌≡◌, refl, List, ◌++◌, ℕ, ◌+◌, ◌-◌, ◌≤◌, take, drop}
+use Rattle.std.proofs.Common.{ap, ◌∙◌, take-take, length-take-le}
+use Rattle.std.proofs.lemmas.List.{drop-take}
 use native.Mathlib.Omega.{arith}
 use Rattle.std.proofs.Math.ListN.{length}
-use borrow.Rule.Slice.PartMut.{put_mid}
-use Rattle.laws.specs.PartLaws.{length_part, part_here, part_before, part_after}
+use borrow.Rule.Slice.PartMut.{put_mid, post_of}
+use Rattle.laws.specs.PartLaws.{length_part, part_here, part_before, part_after, put_halves}
 use Rattle.ring.specs.Ring.{capacity}
 use Rattle.receiving.specs.declared.Scalars.{Scalars}
 use Rattle.table.specs.declared.Common.{Common}
@@ -105,6 +107,22 @@ module _ (t y : List ℕ) (long : table_words ≤ length t) where
       let f : times_at + row_size ≤ length t = omega arith in
       let before = part_before t y times_at row_size f l in
       same_sections (with_times (sections_of t) y) (before 0 common_size (omega arith)) (before sends_at sends_size (omega arith)) (before receives_at receives_size (omega arith)) (before window_at window_size (omega arith)) (before ends_at row_size (omega arith)) (part_here t y times_at row_size f l)
+
+-- ends and times, as they are lent from the halves of the table, f and b
+module _ (t f b : List ℕ) (long : table_words ≤ length t) (ef : f ≡ take times_at t) (eb : b ≡ drop times_at t) where
+  pub lent_ends : take (length f - ends_at) (drop ends_at f) ≡ (sections_of t).ends
+  unfolding sections_of
+  lent_ends =
+      let n : length (take times_at t) - ends_at ≡ row_size = rw (length-take-le times_at t (omega arith)) refl in
+      rw (ef, n) (ap (take row_size) (drop-take ends_at row_size t) ∙ take-take row_size row_size (drop ends_at t) (omega arith))
+
+  pub lent_times : take row_size b ≡ (sections_of t).times
+  unfolding sections_of
+  lent_times = rw eb refl
+
+  pub put_rows : (x y : List ℕ) → length x ≡ row_size → length y ≡ row_size
+      → (take ends_at f ++ (x ++ post_of ends_at (length f - ends_at) f)) ++ (y ++ drop row_size b) ≡ put_mid times_at row_size (put_mid ends_at row_size t x) y
+  put_rows x y lx ly = rw (ef, eb) (put_halves t x y ends_at row_size row_size (omega arith) lx ly)
 
 -- the sizes of the sections
 module _ (t : List ℕ) (long : table_words ≤ length t) where

@@ -190,3 +190,5 @@ module _ (t : List ℕ) (a b r : ℕ) (e : r ≡ ready_of t a b) (z : r ≡ 0) w
 
 pub ready_ranged : {v : Sections} {s : Scalars} → Ready v → s ≡ scalars_of v.receives → Ranged s
 ready_ranged r e = rw e r.receives
+
+pub ruleset readied = (ready_table, ready_first, ready_sections)

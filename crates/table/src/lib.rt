@@ -2,10 +2,12 @@
 #![tactic(auto)]
 
 ghost use Rattle.std.specs.Prelude.{◌≡◌, ℕ, ◌+◌, ◌≤◌, ◌<◌, length};
+ghost use Rattle.refusals.specs.Refusals.{row_of};
 ghost use Rattle.table.specs.Layout.{common_size, sends_size, receives_size, table_words, sections_of, common_of, common_words, sends_of, sends_words, scalars_of, scalars_words};
 ghost use Rattle.table.specs.Rows.{interval_row, short_row, going_of, opened_of, ready_of};
 
 use receiving::Scalars;
+use refusals::Refusal;
 use ring::CAPACITY;
 use sending::{Line, Row};
 use wire::CEILING;
@@ -71,20 +73,18 @@ fn load_sends(w: &[u64]) -> Sends
     requires { length w.now ≡ sends_size }
     ensures { result ≡ sends_of w.now }
 {
-    let line = Line {
-        given: w[0],
-        closed: w[1],
-        limit: w[2],
-    };
-    let row = Row {
-        acked: w[3],
-        next: w[4],
-        oldest: w[5],
-        kept: w[6],
-    };
     Sends {
-        line: line,
-        row: row,
+        line: Line {
+            given: w[0],
+            closed: w[1],
+            limit: w[2],
+        },
+        row: Row {
+            acked: w[3],
+            next: w[4],
+            oldest: w[5],
+            kept: w[6],
+        },
         probed: w[7],
     }
 }
@@ -121,87 +121,61 @@ pub fn save_common(w: &mut [u64], c: Common)
     requires { length w.old ≡ common_size }
     ensures { w.new ≡ common_words c }
 {
-    w[0] = c.opened;
-    w[1] = c.epoch;
-    w[2] = c.interval;
-    w[3] = c.clock;
-    w[4] = c.number;
-    w[5] = c.due;
-    w[6] = c.high;
+    w.copy_from_slice(&[
+        c.opened, c.epoch, c.interval, c.clock, c.number, c.due, c.high,
+    ]);
 }
 
 pub fn save_sends(w: &mut [u64], s: Sends)
     requires { length w.old ≡ sends_size }
     ensures { w.new ≡ sends_words s }
 {
-    let line = s.line;
-    let row = s.row;
-    w[0] = line.given;
-    w[1] = line.closed;
-    w[2] = line.limit;
-    w[3] = row.acked;
-    w[4] = row.next;
-    w[5] = row.oldest;
-    w[6] = row.kept;
-    w[7] = s.probed;
+    let Sends { line, row, probed } = s;
+    w.copy_from_slice(&[
+        line.given,
+        line.closed,
+        line.limit,
+        row.acked,
+        row.next,
+        row.oldest,
+        row.kept,
+        probed,
+    ]);
 }
 
 pub fn save_scalars(w: &mut [u64], s: Scalars)
     requires { length w.old ≡ receives_size }
     ensures { w.new ≡ scalars_words s }
 {
-    w[0] = s.taken;
-    w[1] = s.low;
-    w[2] = s.tail;
-    w[3] = s.high;
-    w[4] = s.known;
-    w[5] = s.end;
-}
-
-// Copies all of src into dst.
-pub fn copy_words(dst: &mut [u64], src: &[u64])
-    requires { length dst.old ≡ length src.now }
-    ensures { dst.new ≡ src.now }
-{
-    let mut i: usize = 0;
-    while i < src.len() {
-        dst[i] = src[i];
-        i += 1;
-    }
+    w.copy_from_slice(&[s.taken, s.low, s.tail, s.high, s.known, s.end]);
 }
 
 // Refusal 10.
-pub fn interval_row(interval: u64) -> u64
-    ensures { result ≡ interval_row interval }
+#[tactic(auto, using(laws::specs::RowsLaws::rows), unfolding(crate::specs::Rows::interval_row))]
+pub fn interval_row(interval: u64) -> Result<(), Refusal>
+    ensures { row_of result ≡ interval_row interval }
 {
-    if interval == 0 {
-        return 10;
+    if interval == 0 || INTERVAL_MOST < interval {
+        return Err(Refusal::Interval);
     }
-    if INTERVAL_MOST < interval {
-        return 10;
-    }
-    0
+    Ok(())
 }
 
+#[tactic(auto, using(laws::specs::RowsLaws::tests), unfolding(crate::specs::Rows::going_of))]
 fn going(c: Common) -> bool
     ensures { result ≡ going_of c }
 {
-    if c.opened != 1 {
-        return false;
-    }
-    if c.interval <= 0 {
-        return false;
-    }
-    if INTERVAL_MOST < c.interval {
-        return false;
-    }
-    if CEILING < c.clock {
-        return false;
-    }
-    if CEILING <= c.number {
-        return false;
-    }
-    c.due <= 1
+    matches!(
+        c,
+        Common {
+            opened: 1,
+            interval: 1..=INTERVAL_MOST,
+            clock: ..=CEILING,
+            number: ..CEILING,
+            due: ..=1,
+            ..
+        }
+    )
 }
 
 // Whether the table's words are those of an opened end.
@@ -209,44 +183,28 @@ fn opened(t: &[u64]) -> bool
     requires { table_words ≤ length t.now }
     ensures { result ≡ opened_of (sections_of t.now) }
 {
-    if going(common_in(t)) {
-        let s = sends_in(t);
-        let line = s.line;
-        let row = s.row;
-        if sending::plausible(line, row) {
-            return receiving::plausible(scalars_in(t));
-        }
-        return false;
-    }
-    false
+    let Sends { line, row, .. } = sends_in(t);
+    going(common_in(t)) && sending::plausible(line, row) && scalars_in(t).plausible()
 }
 
 // Refusal 11, of a table and two buffers as long as this.
-pub fn short_row(table: usize, a: usize, b: usize) -> u64
-    ensures { result ≡ short_row table a b }
+#[tactic(auto, using(laws::specs::RowsLaws::rows), unfolding(crate::specs::Rows::short_row))]
+pub fn short_row(table: usize, a: usize, b: usize) -> Result<(), Refusal>
+    ensures { row_of result ≡ short_row table a b }
 {
-    if table < TABLE_WORDS {
-        return 11;
+    if table < TABLE_WORDS || a < CAPACITY || b < CAPACITY {
+        return Err(Refusal::Short);
     }
-    if a < CAPACITY {
-        return 11;
-    }
-    if b < CAPACITY {
-        return 11;
-    }
-    0
+    Ok(())
 }
 
-// Refusals 11 and 12, or 0.
-pub fn ready(t: &[u64], a: usize, b: usize) -> u64
-    ensures { result ≡ ready_of t.now a b }
+// Refusals 11 and 12.
+pub fn ready(t: &[u64], a: usize, b: usize) -> Result<(), Refusal>
+    ensures { row_of result ≡ ready_of t.now a b }
 {
-    let short = short_row(t.len(), a, b);
-    if short != 0 {
-        return short;
+    short_row(t.len(), a, b)?;
+    if !opened(t) {
+        return Err(Refusal::NotOpen);
     }
-    if opened(t) {
-        return 0;
-    }
-    12
+    Ok(())
 }

@@ -1,10 +1,9 @@
 -- What start and take make of the lent buffers. Assumes nothing.
-use Rattle.std.proofs.Common.{◌≡◌, sym, ◌∙◌, ap, refl, drop, replicate, ⊎_elim, List, ◌++◌, ℕ, ◌+◌, ◌-◌, ◌≤◌, ◌<◌, min, arith, length-append, length-drop, length, get_or, ext_get_or, get_or-drop}
+use Rattle.std.proofs.Common.{◌≡◌, sym, ◌∙◌, ap, drop, replicate, ⊎_elim, List, ◌++◌, ℕ, ◌+◌, ◌-◌, ◌≤◌, ◌<◌, min, arith, length-append, length-drop, length, get_or, ext_get_or, get_or-drop}
 use Rattle.std.proofs.Math.ListN.{get_or-replicate, get_or-append, get_or-eq_default}
 use Rattle.std.proofs.lemmas.List.{length-replicate}
-use borrow.Rule.Slice.PartMut.{put_mid}
-use Rattle.laws.specs.Over.{Over}
-use Rattle.laws.specs.OverLaws.{over_none, over_more, over_length}
+use Rattle.laws.specs.Over.{over, Over}
+use Rattle.laws.specs.OverLaws.{over_length}
 use Rattle.ring.specs.Ring.{capacity, Got}
 use Rattle.receiving.specs.Receiving.{Cell, missing, byte, heads, got_of, take_of, fresh, end_of, arrived, arrived_of, cell_at, cells_of, Ranged, Sound, receiving_of}
 use Rattle.receiving.specs.Calls.{Takes, Starts}
@@ -100,15 +99,20 @@ taken_got : (s : Scalars) (r m d : List ℕ) (n : ℕ) → heads n (cells_of (of
 unfolding receiving_of got_of
 taken_got s r m d n h = sym h
 
-pub takes : {r d y : List ℕ} {s : Scalars} {n k j : ℕ} → Ranged s → Got r s.taken n y → k ≡ min (length d) (s.low - s.taken) → n ≡ k → j ≡ k
-    → Takes r s d (put_mid 0 j d y) (record { taken = s.taken + k; low = s.low; tail = s.tail; high = s.high; known = s.known; end = s.end })
-takes {r} {d} {y} {s} {n} {k} {j} g got e en ej =
+-- the first bytes of a buffer, written
+over_first : {k : ℕ} (y d : List ℕ) → length y ≡ k → Over y d (y ++ drop k d)
+unfolding over
+over_first y d l = record { is = rw l }
+
+pub takes : {r d y : List ℕ} {s : Scalars} {n k : ℕ} → Ranged s → Got r s.taken n y → k ≡ min (length d) (s.low - s.taken) → n ≡ k
+    → Takes r s d (y ++ drop k d) (record { taken = s.taken + k; low = s.low; tail = s.tail; high = s.high; known = s.known; end = s.end })
+takes {r} {d} {y} {s} {n} {k} g got e en =
     let fit : s.taken + k ≤ s.low = omega (arith, g.taken_low) in
     let ranged : Ranged (record { taken = s.taken + k; low = s.low; tail = s.tail; high = s.high; known = s.known; end = s.end }) =
     record { taken_low = fit; low_tail = g.low_tail; tail_high = g.tail_high; high_limit = omega (arith, g.high_limit); high_small = g.high_small } in
     let gk : Got r s.taken k y = rw en at got in
     let l : length y ≡ k = gk.size in
-    let o : Over y d (put_mid 0 j d y) = over_more y y 0 j (over_none d) refl refl (l ∙ sym ej) in
+    let o : Over y d (y ++ drop k d) = over_first y d l in
     let f : s.taken + k - s.taken ≡ k = omega arith in
     let h : (m : List ℕ) → Sound s r m → y ≡ got_of (receiving_of s r m) (length d) = λ m x. taken_got s r m y (length d) (taken_heads s r m k x fit (length d) y e gk) in record {
       same = over_length o (omega arith);

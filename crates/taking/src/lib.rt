@@ -13,15 +13,8 @@ pub fn start(marks: &mut [u8]) -> Scalars
     requires { length marks.old ≡ capacity }
     ensures { Starts marks.old marks.new result }
 {
-    copies::fill(marks, 0);
-    Scalars {
-        taken: 0,
-        low: 0,
-        tail: 0,
-        high: 0,
-        known: 0,
-        end: 0,
-    }
+    marks.fill(0);
+    Scalars::default()
 }
 
 // Hands up what is next in the stream, as much as out has room for.
@@ -30,15 +23,10 @@ pub fn take(ring: &[u8], s: Scalars, out: &mut [u8]) -> Scalars
     requires ranged { Ranged s }
     ensures { Takes ring.now s out.old out.new result }
 {
-    let n = numbers::least(out.len() as u64, s.low - s.taken);
-    let k = n as usize;
-    ring::ring_get(&mut out[0..k], ring, s.taken);
+    let n = (s.low - s.taken).min(out.len() as u64);
+    ring::ring_get(&mut out[..n as usize], ring, s.taken);
     Scalars {
         taken: s.taken + n,
-        low: s.low,
-        tail: s.tail,
-        high: s.high,
-        known: s.known,
-        end: s.end,
+        ..s
     }
 }

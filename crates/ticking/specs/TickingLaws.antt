@@ -120,34 +120,33 @@ send_room {w} {e} {t} k o x lo lx s es = record {
   out_size = rw lx at k.out_size;
 }
 
--- the ring, as the code lends it, and the times, copied
-pub send_room_at : {n : ℕ} → n ≡ capacity → (w : Tick) (e : Stamp) (t o x y : List ℕ) (s : declared.Sends) → SendReady w e t (length o) (length x) → s ≡ sends_of (sections_of t).sends
-    → y ≡ (sections_of t).times → Room w e s.line s.row x (part 0 n o) (sections_of t).ends y
-send_room_at size w e t o x y s k es ey = rw (size, ey) (send_room k o x k.outgoing_size refl s es)
+-- the ring and the tables, as the code lends them: the ends at the end of the front half of t, the times at the start of the other
+module _ {n : ℕ} (size : n ≡ capacity) (w : Tick) (e : Stamp) (t o : List ℕ) (s : declared.Sends) (es : s ≡ sends_of (sections_of t).sends) where
+  pub send_room_at : (x y z : List ℕ) → SendReady w e t (length o) (length x) → y ≡ (sections_of t).ends → z ≡ (sections_of t).times → Room w e s.line s.row x (part 0 n o) y z
+  send_room_at x y z k ey ez = rw (size, ey, ez) (send_room k o x k.outgoing_size refl s es)
 
-pub segments_sent : {n : ℕ} → n ≡ capacity → (w : Tick) (e : Stamp) (t o out x y z a b out' : List ℕ) (s : declared.Sends) (r : Sent) → SendReady w e t (length o) (length out) → s ≡ sends_of (sections_of t).sends
-    → x ≡ (sections_of t).times → Sends w e s.line s.row s.probed (part 0 n o) (sections_of t).ends x out r a b out' → y ≡ b
-    → z ≡ sends_words (record { line = s.line; row = moved s.row r; probed = r.probed })
-    → SegmentsSent w e t o out r (put_mid sends_at sends_size (put_mid times_at row_size (put_mid ends_at row_size t a) y) z) out'
-segments_sent size w e t o out x y z a b out' s r k es ex f ey ez =
-    let h = rw size at f in
-    let v : declared.Sends = record { line = s.line; row = moved s.row r; probed = r.probed } in
-    let la : length a ≡ row_size = h.ends_size in
-    let ly : length y ≡ row_size = ap length ey ∙ h.times_size in
-    let lz : length z ≡ sends_size = ap length ez ∙ sends_size_lem v in
-    let t₁ = put_mid ends_at row_size t a in
-    let t₂ = put_mid times_at row_size t₁ y in
-    let l₀ = k.table_size in
-    let l₁ : length t₁ ≡ length t = length_put t a ends_at row_size (omega arith) la in
-    let l₂ : length t₂ ≡ length t₁ = length_put t₁ y times_at row_size (omega arith) ly in
-    record {
-      size = length_put t₂ z sends_at sends_size (omega arith) lz ∙ l₂ ∙ l₁;
-      output_size = over_length (record { is = h.wrote }) (omega (arith, h.bytes, h.small, h.few, k.out_size));
-      ends = a;
-      times = b;
-      sends = rw (← es, ← ex) h;
-      sections = put_sends t₂ z (omega arith) lz ∙ rw (put_times t₁ y (omega arith) ly, put_ends t a l₀ la, ez, ey, es);
-    }
+  pub segments_sent : (out x y z a b out' : List ℕ) (r : Sent) → SendReady w e t (length o) (length out) → y ≡ (sections_of t).ends → x ≡ (sections_of t).times
+      → Sends w e s.line s.row s.probed (part 0 n o) y x out r a b out' → z ≡ sends_words (record { line = s.line; row = moved s.row r; probed = r.probed })
+      → SegmentsSent w e t o out r (put_mid sends_at sends_size (put_mid times_at row_size (put_mid ends_at row_size t a) b) z) out'
+  segments_sent out x y z a b out' r k ey ex f ez =
+      let h = rw size at f in
+      let v : declared.Sends = record { line = s.line; row = moved s.row r; probed = r.probed } in
+      let la : length a ≡ row_size = h.ends_size in
+      let lb : length b ≡ row_size = h.times_size in
+      let lz : length z ≡ sends_size = ap length ez ∙ sends_size_lem v in
+      let t₁ = put_mid ends_at row_size t a in
+      let t₂ = put_mid times_at row_size t₁ b in
+      let l₀ = k.table_size in
+      let l₁ : length t₁ ≡ length t = length_put t a ends_at row_size (omega arith) la in
+      let l₂ : length t₂ ≡ length t₁ = length_put t₁ b times_at row_size (omega arith) lb in
+      record {
+        size = length_put t₂ z sends_at sends_size (omega arith) lz ∙ l₂ ∙ l₁;
+        output_size = over_length (record { is = h.wrote }) (omega (arith, h.bytes, h.small, h.few, k.out_size));
+        ends = a;
+        times = b;
+        sends = rw (← es, ← ey, ← ex) h;
+        sections = put_sends t₂ z (omega arith) lz ∙ rw (put_times t₁ b (omega arith) lb, put_ends t a l₀ la, ez, es);
+      }
 
 -- THE PLAN
 pub number_loaded : (s : Sections) (c : Common) → Ready s → c ≡ common_of s.common → c.number < ceiling

@@ -2,6 +2,7 @@
 #![tactic(auto)]
 
 ghost use Rattle.std.specs.Prelude.{◌≡◌, ℕ, ◌+◌, ◌-◌, ◌*◌, ◌≤◌, ◌<◌, min, length};
+ghost use Rattle.refusals.specs.Refusals.{row_of};
 ghost use Rattle.ring.specs.Ring.{capacity};
 ghost use Rattle.wire.specs.Datagram.{head_size, ceiling, ACK, encode};
 ghost use Rattle.sending.specs.Sending.{datagrams_most};
@@ -11,12 +12,15 @@ ghost use Rattle.table.specs.Rows.{output_least, output_row};
 ghost use Rattle.table.specs.ReadyLaws.{Ready};
 ghost use Rattle.ticking.specs.Ticking.{clock_by, allowance_by, acks_by, AckSent, SegmentsSent, SendReady, Planned, AckReady, AckOver, TickReady, Ticked};
 
-use sending::{Sent, Stamp, Tick};
+use refusals::Refusal;
+use segments::SEGMENTS;
+use sending::{Row, Sent, Stamp, Tick};
+use steps::Step;
 use table::{
-    Common, ENDS, RECEIVES, SENDS, Sends, TABLE_WORDS, TIMES, common_in, copy_words, save_common,
-    save_sends, scalars_in, sends_in,
+    Common, ENDS, RECEIVES, SENDS, Sends, TIMES, common_in, save_common, save_sends, scalars_in,
+    sends_in,
 };
-use wire::{CEILING, Header};
+use wire::{CEILING, Header, Kind};
 
 // At most so many datagrams leave in a tick.
 const DATAGRAMS: u64 = 32;
@@ -24,49 +28,43 @@ const DATAGRAMS: u64 = 32;
 // 32 datagrams of 1,056 bytes.
 pub const OUTPUT_LEAST: usize = 33792;
 
-// Refusal 13, or 0.
-pub fn output_row(n: usize) -> u64
-    ensures { result ≡ output_row n }
+// Refusal 13.
+#[tactic(auto, using(crate::specs::TickingLaws::output_short, crate::specs::TickingLaws::output_fine))]
+pub fn output_row(n: usize) -> Result<(), Refusal>
+    ensures { row_of result ≡ output_row n }
 {
-    if n < OUTPUT_LEAST { 13 } else { 0 }
+    if n < OUTPUT_LEAST {
+        return Err(Refusal::Output);
+    }
+    Ok(())
 }
 
 // The clock moves on by one, and stops at 2^62.
 fn clock_after(clock: u64) -> u64
     ensures { result ≡ clock_by clock }
 {
-    if clock < CEILING { clock + 1 } else { CEILING }
+    clock.saturating_add(1).min(CEILING)
 }
 
 // How many datagrams may leave.
+#[tactic(auto, unfolding(crate::specs::Ticking::allowance_by))]
 fn allowance(now: u64, next: u64, number: u64) -> u64
     requires { number < ceiling }
     ensures { result ≡ allowance_by now next number }
 {
-    if CEILING <= now {
-        return 0;
+    if now < CEILING && next < CEILING {
+        DATAGRAMS.min(CEILING - 1 - number)
+    } else {
+        0
     }
-    if CEILING <= next {
-        return 0;
-    }
-    let left = CEILING - 1 - number;
-    if DATAGRAMS < left {
-        return DATAGRAMS;
-    }
-    left
 }
 
 // How many ACKs leave: one, if it is due and allowed.
+#[tactic(auto, unfolding(crate::specs::Ticking::acks_by))]
 fn acks(due: u64, allowed: u64) -> u64
     ensures { result ≡ acks_by due allowed }
 {
-    if due == 1 {
-        if 0 < allowed {
-            return 1;
-        }
-        return 0;
-    }
-    0
+    u64::from(due == 1 && 0 < allowed)
 }
 
 // What a tick has to go by.
@@ -82,13 +80,11 @@ fn plan_of(t: &[u64]) -> Plan
     ensures { Planned (sections_of t.now) result }
 {
     let c = common_in(t);
-    let s = sends_in(t);
-    let row = s.row;
     let now = clock_after(c.clock);
-    let allowed = allowance(now, row.next, c.number);
+    let allowed = allowance(now, sends_in(t).row.next, c.number);
     Plan {
-        now: now,
-        allowed: allowed,
+        now,
+        allowed,
         acks: acks(c.due, allowed),
     }
 }
@@ -100,56 +96,54 @@ fn write_ack(out: &mut [u8], t: &[u64], epoch: u64, number: u64)
     ensures { AckSent t.now epoch number out.new }
 {
     let v = scalars_in(t);
-    let position = receiving::position(v);
-    let credit = receiving::credit(v);
-    let h = Header {
-        kind: 2,
-        flags: 0,
-        length: 0,
-        epoch: epoch,
-        number: number,
-        position: position,
-        credit: credit,
-    };
-    writing::write(out, h);
+    writing::write(
+        out,
+        Header {
+            kind: u64::from(Kind::Ack),
+            flags: 0,
+            length: 0,
+            epoch,
+            number,
+            position: v.position(),
+            credit: v.credit(),
+        },
+    );
 }
 
-// Steps 2 to 4, into all of out. The times of the segments are worked on in an array of their own.
-fn send_segments(t: &mut [u64], outgoing: &[u8], out: &mut [u8], w: Tick, e: Stamp) -> Sent
-    requires { SendReady w e t.old (length outgoing.now) (length out.old) }
-    ensures { SegmentsSent w e t.old outgoing.now out.old result t.new out.new }
+// Steps 2 to 4, into all of out.
+fn send_segments(t: &mut [u64], outgoing: &[u8], out: &mut [u8], tick: Tick, stamp: Stamp) -> Sent
+    requires { SendReady tick stamp t.old (length outgoing.now) (length out.old) }
+    ensures { SegmentsSent tick stamp t.old outgoing.now out.old result t.new out.new }
 {
-    let s = sends_in(t);
-    let line = s.line;
-    let row = s.row;
-    let mut times = [0u64; 64];
-    copy_words(&mut times, &t[TIMES..TABLE_WORDS]);
+    let Sends { line, row, probed } = sends_in(t);
     let k = ring::size();
-    let r = steps::send(
-        out,
-        &outgoing[0..k],
-        &mut t[ENDS..TIMES],
-        &mut times,
-        w,
-        e,
+    let (front, times) = t.split_at_mut(TIMES);
+    let step = Step {
+        tick,
+        stamp,
         line,
         row,
-        s.probed,
+    };
+    let sent = step.send(
+        probed,
+        out,
+        &outgoing[0..k],
+        &mut front[ENDS..],
+        &mut times[..SEGMENTS as usize],
     );
-    copy_words(&mut t[TIMES..TABLE_WORDS], &times);
-    let moved = sending::Row {
-        acked: row.acked,
-        next: r.next,
-        oldest: row.oldest,
-        kept: r.kept,
-    };
-    let v = Sends {
-        line: line,
-        row: moved,
-        probed: r.probed,
-    };
-    save_sends(&mut t[SENDS..RECEIVES], v);
-    r
+    save_sends(
+        &mut t[SENDS..RECEIVES],
+        Sends {
+            line,
+            row: Row {
+                next: sent.next,
+                kept: sent.kept,
+                ..row
+            },
+            probed: sent.probed,
+        },
+    );
+    sent
 }
 
 // Step 1: a ACKs, none or one, at the start of out. Answers the bytes written.
@@ -181,17 +175,15 @@ pub fn tick_end(t: &mut [u64], outgoing: &[u8], out: &mut [u8]) -> u64
         epoch: c.epoch,
         number: c.number + p.acks,
     };
-    let end = out.len();
-    let r = send_segments(t, outgoing, &mut out[from..end], w, e);
-    let n = Common {
-        opened: c.opened,
-        epoch: c.epoch,
-        interval: c.interval,
-        clock: p.now,
-        number: c.number + p.acks + r.count,
-        due: c.due - p.acks,
-        high: c.high,
-    };
-    save_common(&mut t[0..SENDS], n);
-    from as u64 + r.bytes as u64
+    let sent = send_segments(t, outgoing, &mut out[from..], w, e);
+    save_common(
+        &mut t[0..SENDS],
+        Common {
+            clock: p.now,
+            number: c.number + p.acks + sent.count,
+            due: c.due - p.acks,
+            ..c
+        },
+    );
+    (from + sent.bytes) as u64
 }

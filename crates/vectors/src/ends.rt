@@ -1,156 +1,170 @@
 // Lines for one end: the calls of 01 section 1 on its buffers, and what they answer.
-use super::{datagram, show};
+ghost use Rattle.std.specs.Prelude.{◌≤◌};
+
+use super::show;
+use refusals::Refusal;
 use ring::CAPACITY;
-use std::io::{Result, Stdout};
+use script::Line;
+use script::datagram::{Datagram, Datagrams};
+use std::io::{self, Print, Stdout};
 use table::TABLE_WORDS;
 use ticking::OUTPUT_LEAST;
 
-// open epoch E R I, with a table of `words W`.
-fn open(
-    to: Stdout,
-    line: &[u8],
-    table: &mut [u64],
-    outgoing: &[u8; CAPACITY],
-    incoming: &[u8; CAPACITY],
-    marks: &mut [u8; CAPACITY],
-) -> Result<()> {
-    let epoch = script::field(line, script::EPOCH, 7);
-    let interval = script::field(line, script::R, 0);
-    let n = script::size(line, script::WORDS, table.len(), table.len());
-    show::answer(
-        to,
-        endpoint::sluice_open(&mut table[0..n], outgoing, incoming, marks, epoch, interval),
-    )
+/// What a host lends to the calls of one end.
+#[derive(Clone, Copy)]
+pub struct End {
+    table: [u64; TABLE_WORDS],
+    outgoing: [u8; CAPACITY],
+    incoming: [u8; CAPACITY],
+    marks: [u8; CAPACITY],
 }
 
-// give N of a byte.
-fn fill(
-    to: Stdout,
-    line: &[u8],
-    table: &mut [u64; TABLE_WORDS],
-    outgoing: &mut [u8; CAPACITY],
-) -> Result<()> {
-    let given = script::many(script::letter(line));
-    let n = script::size(line, script::GIVE, 0, given.len());
-    show::answer(to, endpoint::sluice_give(table, outgoing, &given[0..n]))
-}
-
-// give line: what is left of the line, with its newline.
-fn give(
-    to: Stdout,
-    line: &[u8],
-    table: &mut [u64; TABLE_WORDS],
-    outgoing: &mut [u8; CAPACITY],
-) -> Result<()> {
-    let at = script::after(line, script::LINE);
-    if at < line.len() {
-        return show::answer(to, endpoint::sluice_give(table, outgoing, &line[at..]));
-    }
-    fill(to, line, table, outgoing)
-}
-
-// tick, into `room B` bytes of out. Answers how many bytes were sent.
-fn tick(
-    to: Stdout,
-    line: &[u8],
-    table: &mut [u64; TABLE_WORDS],
-    outgoing: &[u8; CAPACITY],
-    out: &mut [u8],
-) -> Result<usize> {
-    let room = script::size(line, script::ROOM, out.len(), out.len());
-    let r = endpoint::sluice_tick(table, outgoing, &mut out[0..room]);
-    show::datagram::sent(to, r, out)
-}
-
-// ticks N: how many datagrams each sends.
-fn ticks(
-    to: Stdout,
-    line: &[u8],
-    table: &mut [u64; TABLE_WORDS],
-    outgoing: &[u8; CAPACITY],
-    out: &mut [u8; OUTPUT_LEAST],
-) -> Result<usize> {
-    let n = script::size(line, script::TICKS, 0, 1000);
-    let mut sent: usize = 0;
-    let mut i: usize = 0;
-    while i < n {
-        let r = endpoint::sluice_tick(table, outgoing, out);
-        sent = show::datagram::counted(to, r, out)?;
-        i += 1;
-    }
-    Ok(sent)
-}
-
-// take N.
-fn take(
-    to: Stdout,
-    line: &[u8],
-    table: &mut [u64; TABLE_WORDS],
-    incoming: &[u8; CAPACITY],
-) -> Result<()> {
-    let mut space = io::large_buffer();
-    let room: &mut [u8] = &mut space;
-    let n = script::size(line, script::TAKE, 0, room.len());
-    let mut ended: u8 = 0;
-    let r = endpoint::sluice_take(table, incoming, &mut room[0..n], &mut ended);
-    show::taken(to, r, room, ended)
-}
-
-// Lines for the sending side.
-fn sends(
-    to: Stdout,
-    w: u64,
-    line: &[u8],
-    table: &mut [u64; TABLE_WORDS],
-    outgoing: &mut [u8; CAPACITY],
-    out: &mut [u8; OUTPUT_LEAST],
+/// An output buffer. A tick sends its first bytes, `sent` of them the last one.
+#[derive(Clone, Copy)]
+pub struct Output {
+    bytes: [u8; OUTPUT_LEAST],
     sent: usize,
-) -> Result<usize> {
-    if w == script::TICKS {
-        return ticks(to, line, table, outgoing, out);
-    }
-    if w == script::TICK {
-        return tick(to, line, table, outgoing, out);
-    }
-    if w == script::GIVE {
-        give(to, line, table, outgoing)?;
-        return Ok(sent);
-    }
-    if w == script::FINISH {
-        show::answer(to, endpoint::sluice_finish(table))?;
-        return Ok(sent);
-    }
-    show::text(to, b" what?")?;
-    Ok(sent)
 }
 
-// Any line for an end. sent is how many bytes of out the last tick has sent, and so is the answer.
-pub fn line(
-    to: Stdout,
-    line: &[u8],
-    table: &mut [u64; TABLE_WORDS],
-    outgoing: &mut [u8; CAPACITY],
-    incoming: &mut [u8; CAPACITY],
-    marks: &mut [u8; CAPACITY],
-    out: &mut [u8; OUTPUT_LEAST],
-    sent: usize,
-) -> Result<usize> {
-    let w = script::second(line);
-    if w == script::HEARS {
-        datagram::hear_all(to, out, sent, table, incoming, marks)?;
-        return Ok(sent);
+impl Output {
+    pub fn new() -> Output {
+        Output {
+            bytes: [0; OUTPUT_LEAST],
+            sent: 0,
+        }
     }
-    if w == script::HEAR {
-        datagram::hear(to, line, table, incoming, marks)?;
-        return Ok(sent);
+
+    // What the last tick has sent.
+    fn sent(&self) -> Datagrams<'_> {
+        Datagrams {
+            rest: &self.bytes[..self.sent.min(OUTPUT_LEAST)],
+        }
     }
-    if w == script::TAKE {
-        take(to, line, table, incoming)?;
-        return Ok(sent);
+}
+
+impl End {
+    /// An end that was never opened: zeros.
+    pub fn new() -> End {
+        End {
+            table: [0; TABLE_WORDS],
+            outgoing: [0; CAPACITY],
+            incoming: [0; CAPACITY],
+            marks: [0; CAPACITY],
+        }
     }
-    if w == script::OPEN {
-        open(to, line, table, outgoing, incoming, marks)?;
-        return Ok(sent);
+
+    // open epoch E R I, with a table of `words W`.
+    fn open(&mut self, to: Stdout, line: Line<'_>) -> io::Result<()> {
+        let epoch = line.number(b"epoch", 7);
+        let interval = line.number(b"R", 0);
+        let words = line.size(b"words", TABLE_WORDS, TABLE_WORDS);
+        // A slice first: the check has no rule for a part of an array lent beside other fields.
+        let table: &mut [u64] = &mut self.table;
+        show::answer(
+            to,
+            endpoint::sluice_open(
+                &mut table[..words],
+                &self.outgoing,
+                &self.incoming,
+                &mut self.marks,
+                epoch,
+                interval,
+            )
+            .map(|()| 0),
+        )
     }
-    sends(to, w, line, table, outgoing, out, sent)
+
+    // give line: what is left of the line, with its newline. give N of a byte.
+    fn give(&mut self, to: Stdout, line: Line<'_>) -> io::Result<()> {
+        let rest = line.after(b"line");
+        if !rest.is_empty() {
+            return self.give_bytes(to, rest);
+        }
+        let given = script::many(line.letter());
+        let n = line.size(b"give", 0, given.len());
+        self.give_bytes(to, &given[..n])
+    }
+
+    fn give_bytes(&mut self, to: Stdout, bytes: &[u8]) -> io::Result<()> {
+        show::answer(
+            to,
+            endpoint::sluice_give(&mut self.table, &mut self.outgoing, bytes),
+        )
+    }
+
+    fn finish(&mut self, to: Stdout) -> io::Result<()> {
+        show::answer(to, endpoint::sluice_finish(&mut self.table).map(|()| 0))
+    }
+
+    fn hear(&mut self, to: Stdout, datagram: &[u8]) -> io::Result<()> {
+        show::answer(
+            to,
+            endpoint::sluice_datagram(
+                &mut self.table,
+                &mut self.incoming,
+                &mut self.marks,
+                datagram,
+            )
+            .map(|()| 0),
+        )
+    }
+
+    // take N.
+    fn take(&mut self, to: Stdout, line: Line<'_>) -> io::Result<()> {
+        let mut room = [0u8; CAPACITY];
+        let n = line.size(b"take", 0, CAPACITY);
+        let taken = endpoint::sluice_take(&mut self.table, &self.incoming, &mut room[..n]);
+        show::taken(to, taken, &room)
+    }
+
+    // A tick into the first bytes of the output.
+    fn tick(&mut self, output: &mut Output, room: usize) -> Result<u64, Refusal>
+        requires { room ≤ 33792 }
+    {
+        let ticked = endpoint::sluice_tick(
+            &mut self.table,
+            &self.outgoing,
+            &mut output.bytes[..room],
+        );
+        output.sent = match ticked {
+            Ok(sent) => sent as usize,
+            Err(_) => 0,
+        };
+        ticked
+    }
+
+    // ticks N: how many datagrams each sends.
+    fn ticks(&mut self, to: Stdout, line: Line<'_>, output: &mut Output) -> io::Result<()> {
+        output.sent = 0;
+        for _ in 0..line.size(b"ticks", 0, 1000) {
+            let _ = self.tick(output, OUTPUT_LEAST);
+            let sent = output.sent().count();
+            print!(to; " {sent}")?;
+        }
+        Ok(())
+    }
+}
+
+// Any line for an end.
+pub fn line(to: Stdout, line: Line<'_>, end: &mut End, output: &mut Output) -> io::Result<()> {
+    match line.second() {
+        b"open" => end.open(to, line),
+        b"give" => end.give(to, line),
+        b"finish" => end.finish(to),
+        b"hear" => end.hear(to, Datagram::new(line).as_slice()),
+        b"hears" => {
+            for datagram in output.sent() {
+                end.hear(to, datagram)?;
+            }
+            Ok(())
+        }
+        b"take" => end.take(to, line),
+        b"tick" => {
+            let room = line.size(b"room", OUTPUT_LEAST, OUTPUT_LEAST);
+            show::answer(to, end.tick(output, room))?;
+            show::datagrams(to, output.sent())
+        }
+        b"ticks" => end.ticks(to, line, output),
+        _ => print!(to; " what?"),
+    }
 }

@@ -4,15 +4,14 @@
 ghost use Rattle.std.specs.Prelude.{◌≤◌, length, IfOk};
 
 mod alone;
-mod datagram;
 mod ends;
 mod play;
 mod show;
 
-use std::io::Read;
+use std::io::{self, Read};
 
-// Reads until buf is full or the input ends. Answers how many bytes were read.
-fn read_full<R: Read>(from: &mut R, buf: &mut [u8]) -> std::io::Result<usize>
+// Reads until buf is full or the input ends. Answers how many bytes were read. std's `read_exact` fails where the input ends first, and its `read_to_end` wants a heap.
+fn read_full<R: Read>(from: &mut R, buf: &mut [u8]) -> io::Result<usize>
     ensures { IfOk result (λ n. n ≤ length buf.new) }
 {
     let mut done: usize = 0;
@@ -26,8 +25,8 @@ fn read_full<R: Read>(from: &mut R, buf: &mut [u8]) -> std::io::Result<usize>
     Ok(done)
 }
 
-fn main(rt: HostRuntime) -> std::io::Result<()> {
+fn main(rt: HostRuntime) -> io::Result<()> {
     let mut text = [0u8; 16384];
     let n = read_full(&mut rt.stdin(), &mut text)?;
-    play::from_zeros(rt.stdout(), &text[..n])
+    play::play(rt.stdout(), &text[..n])
 }

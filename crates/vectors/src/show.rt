@@ -1,66 +1,72 @@
 // What is written on standard output: bytes, numbers and datagrams, each answer after a space.
-use std::io::{Print, Result, Stdout};
+ghost use Rattle.std.specs.Prelude.{◌≤◌, length};
 
-pub mod datagram;
+use refusals::Refusal;
+use script::datagram::Datagrams;
+use script::shown::{Hex, same};
+use std::io::{self, Print, Stdout};
 
-pub fn text(to: Stdout, s: &[u8]) -> Result<()> {
-    to.write_all(s)
+// Bytes on a line of their own.
+fn line(to: Stdout, bytes: &[u8]) -> io::Result<()> {
+    let hex = Hex { bytes };
+    print!(to; "\n {hex}")
 }
 
-// A number after a text.
-pub fn number(to: Stdout, before: &[u8], n: u64) -> Result<()> {
-    text(to, before)?;
-    to.print(n)
+// Header and payload of a datagram; of a payload above 16 bytes its size.
+fn datagram(to: Stdout, d: &[u8]) -> io::Result<()>
+    requires { 32 ≤ length d.now }
+{
+    line(to, &d[..20])?;
+    line(to, &d[20..32])?;
+    let payload = &d[32..];
+    match payload.len() {
+        0 => Ok(()),
+        1..=16 => line(to, payload),
+        n => print!(to; "\n  {n} bytes"),
+    }
 }
 
-// Bytes on a line of their own, each as two digits.
-pub fn line(to: Stdout, d: &[u8]) -> Result<()> {
-    text(to, b"\n ")?;
-    let mut i: usize = 0;
-    while i < d.len() {
-        let p = script::shown::pair(d[i]);
-        text(to, &p)?;
-        i += 1;
+pub fn datagrams(to: Stdout, all: Datagrams<'_>) -> io::Result<()> {
+    for d in all {
+        datagram(to, d)?;
     }
     Ok(())
 }
 
 // The bytes taken; of more than 64 only whether they are all the same.
-fn some(to: Stdout, d: &[u8]) -> Result<()> {
+fn some(to: Stdout, d: &[u8]) -> io::Result<()> {
     if d.len() <= 64 {
-        return text(to, d);
+        return to.write_all(d);
     }
-    if script::shown::same(d, d[0]) {
-        text(to, b"all ")?;
-        return text(to, &d[0..1]);
+    if same(d, d[0]) {
+        print!(to; "all ")?;
+        return to.write_all(&d[..1]);
     }
-    text(to, b"not all the same")
+    print!(to; "not all the same")
 }
 
 // What take answered: how many bytes of room were taken, whether the END has been reached, and the bytes.
-pub fn taken(to: Stdout, r: i64, room: &[u8], ended: u8) -> Result<()> {
-    answer(to, r)?;
-    if r < 0 {
-        return Ok(());
-    }
-    number(to, b" bytes, ended ", ended as u64)?;
-    text(to, b": ")?;
-    let n = io::count(r as isize, room);
-    some(to, &room[..n])
+pub fn taken(to: Stdout, taken: Result<(u64, bool), Refusal>, room: &[u8]) -> io::Result<()> {
+    let (n, ended) = match taken {
+        Ok(taken) => taken,
+        Err(refusal) => return answer(to, Err(refusal)),
+    };
+    print!(to; " {n} bytes, ended {}: ", u8::from(ended))?;
+    some(to, &room[..(n as usize).min(room.len())])
 }
 
 // A refusal's number, or ok.
-pub fn verdict(to: Stdout, r: u64) -> Result<()> {
-    if r == 0 {
-        return text(to, b" ok");
+pub fn verdict(to: Stdout, verdict: Result<(), Refusal>) -> io::Result<()> {
+    match verdict {
+        Ok(()) => print!(to; " ok"),
+        Err(refusal) => print!(to; " {}", u64::from(refusal)),
     }
-    number(to, b" ", r)
 }
 
 // What a call answered.
-pub fn answer(to: Stdout, r: i64) -> Result<()> {
-    if r < 0 {
-        text(to, b" refused with")?;
+pub fn answer(to: Stdout, answer: Result<u64, Refusal>) -> io::Result<()> {
+    match answer {
+        Ok(n) => print!(to; " {n}"),
+        Err(refusal) => print!(to; " {refusal}"),
     }
-    number(to, b" ", script::shown::amount(r))
 }

@@ -32,6 +32,9 @@ pub record Starts (h p a : ℕ) : Type 0 where
   pub near : p ≤ a + width
   pub low : a ≤ max (h + 1) (p - width)
 
+pub starts : {h p s a : ℕ} → h < p → s ≡ p - width → a ≡ max (h + 1) s → Starts h p a
+starts l e f = record { above = omega arith; upto = omega arith; near = omega arith; low = omega arith }
+
 pub accepted_above : {h a p q : ℕ} {m₀ m m' : List ℕ} → Starts h p a → p ≤ q → Cleared m₀ a p q m → Put m p 1 m' → Marked h m₀ p p m'
 accepted_above a pq s t = record {
   high = omega arith;

@@ -1,21 +1,24 @@
 // Numbers, taken at most once: 01 section 4. A window is h, the highest number accepted, and 16 words of marks.
 #![tactic(auto)]
 
-ghost use Rattle.std.specs.Prelude.{◌≡◌, ℕ, ◌+◌, ◌-◌, ◌≤◌, ◌<◌, length};
+ghost use Rattle.std.specs.Prelude.{◌≡◌, ℕ, ◌+◌, ◌-◌, ◌≤◌, ◌<◌, not, eqb, length};
+ghost use Rattle.refusals.specs.Refusals.{row_of};
 ghost use Rattle.window.specs.Window.{width, verdict_of};
 ghost use Rattle.window.specs.Marks.{words, mark, window_of, Put, Accepts};
+
+use refusals::Refusal;
 
 pub const WIDTH: u64 = 1024;
 
 const WORDS: u64 = 16;
 
-// The mark of q: 0 or 1.
-fn marked(m: &[u64], q: u64) -> u64
+// Whether q has its mark.
+fn marked(m: &[u64], q: u64) -> bool
     requires { length m.now ≡ words }
-    ensures { result ≡ mark m.now q }
+    ensures { result ≡ not (eqb (mark m.now q) 0) }
 {
     let i = (q / 64 % WORDS) as usize;
-    m[i] >> (q % 64) & 1
+    m[i] >> (q % 64) & 1 != 0
 }
 
 fn set_mark(m: &mut [u64], q: u64)
@@ -35,21 +38,25 @@ fn clear_mark(m: &mut [u64], q: u64)
     m[i] = (m[i] | b) ^ b;
 }
 
-// What becomes of the number p: 4, 5, 6, or 0 where it is new.
-pub fn verdict(h: u64, m: &[u64], p: u64) -> u64
+// What becomes of the number p: refused with 4, 5 or 6, or new.
+#[tactic(auto, using(crate::proofs::MarksLaws::verdicts))]
+pub fn verdict(h: u64, m: &[u64], p: u64) -> Result<(), Refusal>
     requires { length m.now ≡ words }
-    ensures { result ≡ verdict_of (window_of h m.now) p }
+    ensures { row_of result ≡ verdict_of (window_of h m.now) p }
 {
     if p == 0 {
-        return 4;
+        return Err(Refusal::NumberZero);
     }
     if h < p {
-        return 0;
+        return Ok(());
     }
     if WIDTH <= h - p {
-        return 5;
+        return Err(Refusal::TooOld);
     }
-    if marked(m, p) == 0 { 0 } else { 6 }
+    if marked(m, p) {
+        return Err(Refusal::Taken);
+    }
+    Ok(())
 }
 
 // Marks p, clears the marks of the numbers that are passed, and answers the highest number.
@@ -61,13 +68,9 @@ pub fn accept(h: u64, m: &mut [u64], p: u64) -> u64
         set_mark(m, p);
         return h;
     }
-    let mut q = h + 1;
-    if WIDTH < p - h {
-        q = p - WIDTH;
-    }
-    while q < p {
+    let first = (h + 1).max(p.saturating_sub(WIDTH));
+    for q in first..p {
         clear_mark(m, q);
-        q += 1;
     }
     set_mark(m, p);
     p

@@ -1,5 +1,5 @@
 -- Laws of numbers read, and the round trips of 01 §2. Assumes nothing.
-use Rattle.std.proofs.Common.{◌≡◌, refl, List, [], ◌++◌, ℕ, zero, suc, ◌+◌, ◌-◌, ◌*◌, ◌/◌, ◌^◌, ◌≤◌, ◌<◌, length, get_or, ap, sym, ◌∙◌, append_assoc, div-one, add-one, arith, shr-shr, length-append, get_or-append-add}
+use Rattle.std.proofs.Common.{◌≡◌, refl, List, [], ◌++◌, ℕ, zero, suc, ◌+◌, ◌-◌, ◌*◌, ◌/◌, ◌^◌, ◌≤◌, ◌<◌, length, get_or, ap, sym, ◌∙◌, append_assoc, div-one, arith, shr-shr, length-append, get_or-append-add}
 use Rattle.std.proofs.Math.Nat.{div-eq_of_lt, sub-zero, sub_self}
 use Rattle.std.proofs.Math.ListN.{get_or-append}
 use Rattle.laws.specs.RowsLaws.{miss_lt}
@@ -7,11 +7,6 @@ use Rattle.wire.specs.declared.Header.{Header}
 use Rattle.wire.specs.Datagram.{head_size, be, start_of, rest_of, head_of}
 use Rattle.wire.specs.DatagramLaws.{be_length, be_at, start_length}
 use Rattle.wire.specs.Reading.{num, fields_of, rows_of, form_of, Fields}
-
--- one byte more
-pub num_more : (s : List ℕ) (at n : ℕ) → num s at (n + 1) ≡ num s at n * 256 + get_or s (at + n) 0
-unfolding num
-num_more s at n = rw add-one
 
 -- a number is its bytes'
 pub num_same : (s s' : List ℕ) (at n : ℕ) → ((j : ℕ) → at ≤ j → j < at + n → get_or s' j 0 ≡ get_or s j 0) → num s' at n ≡ num s at n

@@ -1,3 +1,4 @@
+pub mod Kinds
 pub mod Datagram
 pub mod DatagramLaws
 pub mod Reading

@@ -1,5 +1,5 @@
 -- 01 §2 and §3: a datagram's bytes read, and refusals 1 and 2.
-use Rattle.std.specs.Prelude.{not, List, ◌≡◌, ℕ, zero, suc, ◌+◌, ◌*◌, ◌^◌, ◌<◌, eqb, ltb, length, get_or, drop}
+use Rattle.std.specs.Prelude.{not, List, ◌≡◌, ℕ, zero, suc, ◌+◌, ◌*◌, ◌<◌, eqb, ltb, length, get_or, drop}
 use Rattle.laws.specs.Choice.{if}
 use Rattle.laws.specs.Rows.{when, ◌or_else◌, branch}
 use Rattle.wire.specs.declared.Header.{Header}
@@ -66,11 +66,6 @@ decode_as (suc r) d = refused (suc r)
 
 unfoldable pub decode : List ℕ → Decoded
 decode d = decode_as (form_of d) d
-
--- v is the number whose n bytes stand in s from `at` on
-pub record Got (s : List ℕ) (at n v : ℕ) : Type 0 where
-  pub is : v ≡ num s at n
-  pub small : v < 2 ^ (8 * n)
 
 -- h is what stands in the fields of d
 pub record Fields (d : List ℕ) (h : Header) : Type 0 where

@@ -1,18 +1,53 @@
-// A datagram's header, 01 section 2: its fields, and how they are read.
+// A datagram's header, 01 section 2: its fields, how they are read, and what its kinds are.
 #![tactic(auto)]
 
 ghost use Rattle.std.specs.Prelude.{◌≡◌, ◌+◌, ◌≤◌, length};
+ghost use Rattle.laws.specs.Part.{part};
 ghost use Rattle.wire.specs.Datagram.{head_size};
-ghost use Rattle.wire.specs.Reading.{Got, Fields};
+ghost use Rattle.wire.specs.Kinds.{kind_number, KindOf};
+ghost use Rattle.wire.specs.Reading.{Fields};
+
+use refusals::Refusal;
 
 pub const HEAD_SIZE: u64 = 32;
 
 pub const PAYLOAD_MOST: u64 = 1024;
 
-// 2^62: numbers, ticks and positions stay below it.
+/// 2^62: numbers, ticks and positions stay below it.
 pub const CEILING: u64 = 4611686018427387904;
 
-// The fields before the payload.
+/// What a datagram is, by the number in its first byte.
+#[derive(Clone, Copy, Debug, PartialEq, Eq)]
+pub enum Kind {
+    Data = 1,
+    Ack,
+    Probe,
+}
+
+impl From<Kind> for u64 {
+    ghost from_gives = { λ kind number. number ≡ kind_number kind };
+
+    fn from(kind: Kind) -> u64 {
+        kind as u64
+    }
+}
+
+impl TryFrom<u64> for Kind {
+    type Error = Refusal;
+
+    ghost try_from_gives = { KindOf };
+
+    fn try_from(number: u64) -> Result<Kind, Refusal> {
+        match number {
+            1 => Ok(Kind::Data),
+            2 => Ok(Kind::Ack),
+            3 => Ok(Kind::Probe),
+            _ => Err(Refusal::Form),
+        }
+    }
+}
+
+/// The fields before the payload. The kind is a number: fields are read before they are judged, and a header may say any.
 #[derive(Clone, Copy)]
 pub struct Header {
     pub kind: u64,
@@ -24,49 +59,26 @@ pub struct Header {
     pub credit: u64,
 }
 
-// The number of n bytes at `at`, the highest first, one by one.
-fn value(s: &[u8], at: usize, n: usize) -> u64
-    requires { (n ≤ 8) × (at + n ≤ length s.now) }
-    ensures { Got s.now at n result }
+// The N bytes of d from `at` on.
+fn bytes<const N: usize>(d: &[u8], at: usize) -> [u8; N]
+    requires { at + N ≤ length d.now }
+    ensures { result ≡ part at N d.now }
 {
-    let mut v: u64 = 0;
-    let mut i: usize = 0;
-    while i < n {
-        v = v * 256 + s[at + i] as u64;
-        i += 1;
-    }
-    v
+    <[u8; N]>::try_from(&d[at..at + N]).unwrap()
 }
 
-// The same through t, so that they are loaded at once.
-fn get_through(t: &mut [u8], s: &[u8], at: usize, n: usize) -> u64
-    requires { (n ≤ 8) × ((length t.old ≡ 8) × (at + n ≤ length s.now)) }
-    ensures { Got s.now at n result }
-{
-    copies::copy(&mut t[0..n], &s[at..at + n]);
-    value(t, 0, n)
-}
-
-fn get(s: &[u8], at: usize, n: usize) -> u64
-    requires { (n ≤ 8) × (at + n ≤ length s.now) }
-    ensures { Got s.now at n result }
-{
-    let mut t = [0u8; 8];
-    get_through(&mut t, s, at, n)
-}
-
-// The fields of a datagram that has a whole header.
+/// The fields of a datagram that has a whole header.
 pub fn fields(d: &[u8]) -> Header
     requires { head_size ≤ length d.now }
     ensures { Fields d.now result }
 {
     Header {
-        kind: get(d, 0, 1),
-        flags: get(d, 1, 1),
-        length: get(d, 2, 2),
-        epoch: get(d, 4, 8),
-        number: get(d, 12, 8),
-        position: get(d, 20, 8),
-        credit: get(d, 28, 4),
+        kind: d[0] as u64,
+        flags: d[1] as u64,
+        length: u16::from_be_bytes(bytes(d, 2)) as u64,
+        epoch: u64::from_be_bytes(bytes(d, 4)),
+        number: u64::from_be_bytes(bytes(d, 12)),
+        position: u64::from_be_bytes(bytes(d, 20)),
+        credit: u32::from_be_bytes(bytes(d, 28)) as u64,
     }
 }

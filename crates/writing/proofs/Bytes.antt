@@ -1,30 +1,21 @@
--- Laws of writing a number byte by byte. Assumes nothing.
-use Rattle.std.proofs.Common.{◌≡◌, ◌∙◌, refl, length, take, drop, set, List, ◌++◌, ℕ, ◌+◌, ◌-◌, ◌*◌, ◌/◌, ◌%◌, ◌^◌, ◌≤◌, ◌<◌, arith, length-set}
-use Rattle.laws.specs.CopyLaws.{store_more, copied}
+-- What `to_be_bytes` gives is what a datagram has of a number. Assumes nothing.
+use Rattle.std.proofs.Common.{◌≡◌, ap, ◌∙◌, List, take, drop, ℕ, div-one}
+use Rattle.std.specs.Int.{w64, to_be_bytes}
 use Rattle.wire.specs.Datagram.{be}
-use Rattle.wire.specs.DatagramLaws.{be_length, be_at}
 
--- the first i bytes of be n v stand in s, all else is as in d
-pub record Putting (d : List ℕ) (n v i : ℕ) (s : List ℕ) : Type 0 where
-  pub long : length s ≡ n
-  pub size : length d ≡ n
-  pub here : s ≡ take i (be n v) ++ drop i d
+-- all eight bytes, and the lowest four, two and one
+pub be_8 : {y bs : List ℕ} (v : ℕ) → y ≡ bs → bs ≡ to_be_bytes w64 v → y ≡ be 8 v
+unfolding be
+be_8 v e f = e ∙ f ∙ rw div-one
 
-pub putting_none : (d : List ℕ) (n v : ℕ) → length d ≡ n → Putting d n v 0 d
-putting_none d n v h = record { long = h; size = h; here = refl }
+pub be_4 : {y bs : List ℕ} (v : ℕ) → y ≡ take 4 (drop 4 bs) → bs ≡ to_be_bytes w64 v → y ≡ be 4 v
+unfolding be
+be_4 v e f = e ∙ ap (λ (x : List ℕ). take 4 (drop 4 x)) f ∙ rw div-one
 
-pub putting_more : {d s : List ℕ} {n v i : ℕ} → Putting d n v i s → i < n → Putting d n v (i + 1) (set s i (v / 2 ^ (8 * (n - 1 - i)) % 256))
-putting_more {d} {s} {n} {v} {i} w h =
-    let b : length (be n v) ≡ n = be_length n v in
-    let l : length d ≡ n = w.size in
-    record {
-      long = length-set s _ _ ∙ w.long;
-      size = w.size;
-      here = rw (w.here, ← be_at n v i h) (store_more (be n v) d i (omega arith) (omega arith));
-    }
+pub be_2 : {y bs : List ℕ} (v : ℕ) → y ≡ take 2 (drop 6 bs) → bs ≡ to_be_bytes w64 v → y ≡ be 2 v
+unfolding be
+be_2 v e f = e ∙ ap (λ (x : List ℕ). take 2 (drop 6 x)) f ∙ rw div-one
 
-pub putting_all : {d s : List ℕ} {n v i : ℕ} → Putting d n v i s → n ≤ i → s ≡ be n v
-putting_all {d} {s} {n} {v} {i} w h =
-    let b : length (be n v) ≡ n = be_length n v in
-    let l : length d ≡ n = w.size in
-    w.here ∙ copied (be n v) d i (omega arith) (omega arith)
+pub be_1 : {y bs : List ℕ} (v : ℕ) → y ≡ take 1 (drop 7 bs) → bs ≡ to_be_bytes w64 v → y ≡ be 1 v
+unfolding be
+be_1 v e f = e ∙ ap (λ (x : List ℕ). take 1 (drop 7 x)) f ∙ rw div-one

@@ -5,6 +5,3 @@ use Rattle.filling.proofs.in_order.Goals as goal
 
 pub returns-then-s : goal.returns-then-s
 returns-then-s c = search (rules, fast_fills)
-
-pub follow-requires-clause-fresh : goal.follow-requires-clause-fresh
-follow-requires-clause-fresh c = c.fresh.ensures (search rules)

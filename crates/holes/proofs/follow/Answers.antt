@@ -3,8 +3,8 @@ use Rattle.holes.proofs.HoleLaws.{hole_fills, tail_fills}
 use Rattle.std.proofs.Common.{rules}
 use Rattle.holes.proofs.follow.Goals as goal
 
-pub returns-then-l-s : goal.returns-then-l-s
-returns-then-l-s c = search (rules, tail_fills)
+pub returns-then-low-s : goal.returns-then-low-s
+returns-then-low-s c = search (rules, tail_fills)
 
 pub returns : goal.returns
 returns c = search (rules, hole_fills)

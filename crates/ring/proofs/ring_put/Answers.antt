@@ -5,5 +5,6 @@ use Rattle.ring.proofs.ring_put.Goals as goal
 pub returns : goal.returns
 returns c =
     let x = c.args in
-    put_parts x.ring.now x.src.now c.copy.new.dst c.copy-2.new.dst x.pos c.index-at.result c.before_seam-k.result
-    c.requires.ring_len c.requires.src_len_bound c.index-at.ensures c.before_seam-k.ensures c.copy.ensures c.copy-2.ensures
+    let p = put_parts x.ring.now x.src.now c.split_at.result.0.now c.split_at.result.1.now x.pos c.index-at.result c.before_seam.result
+    c.requires.ring_len c.requires.src_len_bound c.index-at.ensures c.before_seam.ensures c.split_at.ensures.front c.split_at.ensures.back in
+    rw (c.copy_from_slice.ensures.after, c.copy_from_slice-2.ensures.after) p

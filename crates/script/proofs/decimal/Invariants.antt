@@ -1,9 +1,6 @@
--- What lasts in the loop of `script::decimal`, and what falls.
-use Rattle.std.proofs.Common.{◌-◌, ◌<◌, length}
+-- What lasts in the loop of `script::decimal`.
+use Rattle.std.proofs.Common.{◌<◌}
 use Rattle.script.proofs.decimal.Given as goal
 
-abbrev pub invariant-loop-i : goal.invariant-loop-i
-invariant-loop-i l = l.v < 10000000000000000000
-
-abbrev pub decreases-loop-i : goal.decreases-loop-i
-decreases-loop-i l = length l.line - l.i
+abbrev pub invariant-loop-b : goal.invariant-loop-b
+invariant-loop-b l = l.v < 10000000000000000000

@@ -1,9 +1,6 @@
--- What lasts in the loop of `sending::ack`, and what falls.
+-- What lasts in the loop of `sending::ack`.
 use Rattle.sending.proofs.Acking.{Acking}
 use Rattle.sending.proofs.ack.Given as goal
 
-abbrev pub invariant-loop-k : goal.invariant-loop-k
-invariant-loop-k l = Acking l.ends l.p l.position l.acked l.o l.k
-
-abbrev pub decreases-loop-k : goal.decreases-loop-k
-decreases-loop-k l = l.k
+abbrev pub invariant-loop-i : goal.invariant-loop-i
+invariant-loop-i l = Acking l.ends l.p l.position l.acked l.i

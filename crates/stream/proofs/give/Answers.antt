@@ -4,8 +4,8 @@ use Rattle.table.specs.LayoutLaws.{ring_sized}
 use Rattle.stream.specs.StreamLaws.{given_fits, gave}
 use Rattle.stream.proofs.give.Goals as goal
 
-pub overflow_add-longer : goal.overflow_add-longer
-overflow_add-longer c = omega (arith, given_fits c.requires.table_words_in_bounds.1 c.sends_in-s.ensures c.give-n.ensures)
+pub overflow_add-line : goal.overflow_add-line
+overflow_add-line c = omega (arith, given_fits c.requires.table_words_in_bounds.1 c.sends_in-s.ensures c.give-n.ensures)
 
 pub slice_bounds-save_sends-end : goal.slice_bounds-save_sends-end
 slice_bounds-save_sends-end c = let h = c.requires.table_words_in_bounds.0 in search rules

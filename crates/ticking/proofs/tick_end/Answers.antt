@@ -24,39 +24,39 @@ slice_bounds-send_segments-start c =
     let h = from_most c.requires c.common_in-c.ensures c.plan_of-p.ensures refl c.ack_first-from.ensures in
     search rules
 
-pub send_segments-r-requires : goal.send_segments-r-requires
-send_segments-r-requires c = send_ready c.requires c.common_in-c.ensures c.plan_of-p.ensures refl c.ack_first-from.ensures
+pub send_segments-sent-requires : goal.send_segments-sent-requires
+send_segments-sent-requires c = send_ready c.requires c.common_in-c.ensures c.plan_of-p.ensures refl c.ack_first-from.ensures
 
-pub overflow_add-n : goal.overflow_add-n
-overflow_add-n c =
+pub overflow_add-c : goal.overflow_add-c
+overflow_add-c c =
     let f = tick_facts c.requires c.common_in-c.ensures c.plan_of-p.ensures in
     omega arith
 
-pub overflow_add-n-2 : goal.overflow_add-n-2
-overflow_add-n-2 c =
+pub overflow_add-c-2 : goal.overflow_add-c-2
+overflow_add-c-2 c =
     let f = tick_facts c.requires c.common_in-c.ensures c.plan_of-p.ensures in
-    omega (arith, f.numbers, f.allowed, sent_few c.send_segments-r.ensures)
+    omega (arith, f.numbers, f.allowed, sent_few c.send_segments-sent.ensures)
 
-pub overflow_sub-n : goal.overflow_sub-n
-overflow_sub-n c =
+pub overflow_sub-c : goal.overflow_sub-c
+overflow_sub-c c =
     let f = tick_facts c.requires c.common_in-c.ensures c.plan_of-p.ensures in
     omega arith
 
 pub slice_bounds-save_common-end : goal.slice_bounds-save_common-end
 slice_bounds-save_common-end c =
-    let h = sent_size c.send_segments-r.ensures in
+    let h = sent_size c.send_segments-sent.ensures in
     let g = c.requires.table_size in
     search rules
 
 pub overflow_add-result : goal.overflow_add-result
 overflow_add-result c =
     let f = tick_facts c.requires c.common_in-c.ensures c.plan_of-p.ensures in
-    let h = c.send_segments-r.ensures in
+    let h = c.send_segments-sent.ensures in
     omega (arith, bytes_most _ _ _ _ _ c.ack_first-from.ensures.few f.one f.allowed f.most (sent_few h) (sent_small h))
 
 done : goal.returns
 done c =
-    ticked c.args.t.now c.args.outgoing.now c.args.out.now c.requires c.common_in-c.ensures c.plan_of-p.ensures c.ack_first-from.ensures c.send_segments-r.ensures c.save_common.ensures
+    ticked c.args.t.now c.args.outgoing.now c.args.out.now c.requires c.common_in-c.ensures c.plan_of-p.ensures c.ack_first-from.ensures c.send_segments-sent.ensures c.save_common.ensures
 
 pub shape_of-out : goal.shape_of-out
 shape_of-out c = (done c).output_size

@@ -4,11 +4,11 @@ use Rattle.table.specs.ReadyLaws.{ready_ranged}
 use Rattle.std.proofs.Common.{rules}
 use Rattle.ticking.proofs.write_ack.Goals as goal
 
-pub position-position-requires : goal.position-position-requires
-position-position-requires c = search (rules, ready_ranged)
+pub position-requires : goal.position-requires
+position-requires c = search (rules, ready_ranged)
 
-pub credit-credit-requires : goal.credit-credit-requires
-credit-credit-requires c = search (rules, ready_ranged)
+pub credit-requires : goal.credit-requires
+credit-requires c = search (rules, ready_ranged)
 
 pub returns : goal.returns
 returns c = search (rules, ack_sent)

@@ -1,2 +1,0 @@
--- What is found in a buffer.
-pub mod Search
