@@ -2,14 +2,15 @@
 // The ring, the marks, and src with its position p are parameters each: `Stored`, `Laid` and `Placed` speak of each before and after, and would take a struct of them apart in every clause.
 #![tactic(auto)]
 
-ghost use Rattle.std.specs.Prelude.{◌≡◌, ◌+◌, ◌≤◌, ◌<◌, length};
+ghost use Rattle.std.specs.Prelude.{◌+◌, ◌≤◌, ◌<◌, length};
 ghost use Rattle.wire.specs.Datagram.{ceiling};
 ghost use Rattle.ring.specs.Ring.{capacity};
 ghost use Rattle.arrivals.specs.Steps.{Written, Stored, Laid, Placed, Advanced};
 
+use ring::CAPACITY;
+
 /// Bytes of src, which starts at position p, from position a on: straight into the ring.
-pub fn write(ring: &mut [u8], p: u64, src: &[u8], a: u64)
-    requires ring_len { length ring.old ≡ capacity }
+pub fn write(ring: &mut [u8; CAPACITY], p: u64, src: &[u8], a: u64)
     requires src_len_bound { length src.now ≤ capacity }
     requires p_le_a { (p ≤ a) × (a ≤ p + length src.now) }
     ensures { Written ring.old p src.now a (p + length src.now) ring.new }
@@ -19,8 +20,7 @@ pub fn write(ring: &mut [u8], p: u64, src: &[u8], a: u64)
 }
 
 // The byte of src, which starts at position p, for the position q: it goes where there is no mark.
-fn store_one(ring: &mut [u8], marks: &mut [u8], p: u64, src: &[u8], q: u64)
-    requires ring_len { (length ring.old ≡ capacity) × (length marks.old ≡ capacity) }
+fn store_one(ring: &mut [u8; CAPACITY], marks: &mut [u8; CAPACITY], p: u64, src: &[u8], q: u64)
     requires p_le_q { (p ≤ q) × (q < p + length src.now) }
     ensures { Stored ring.old marks.old p src.now q (q + 1) ring.new marks.new }
 {
@@ -32,8 +32,7 @@ fn store_one(ring: &mut [u8], marks: &mut [u8], p: u64, src: &[u8], q: u64)
 }
 
 // Position by position, from a to b - 1.
-fn store(ring: &mut [u8], marks: &mut [u8], p: u64, src: &[u8], a: u64, b: u64)
-    requires ring_len { (length ring.old ≡ capacity) × (length marks.old ≡ capacity) }
+fn store(ring: &mut [u8; CAPACITY], marks: &mut [u8; CAPACITY], p: u64, src: &[u8], a: u64, b: u64)
     requires p_le_a { ((p ≤ a) × (a ≤ b)) × ((b ≤ p + length src.now) × (b ≤ a + capacity)) }
     ensures { Stored ring.old marks.old p src.now a b ring.new marks.new }
 {
@@ -43,8 +42,7 @@ fn store(ring: &mut [u8], marks: &mut [u8], p: u64, src: &[u8], a: u64, b: u64)
 }
 
 /// Passes and clears marks from low on, up to the first position without one, or top.
-pub fn advance(marks: &mut [u8], low: u64, top: u64) -> u64
-    requires marks_len { length marks.old ≡ capacity }
+pub fn advance(marks: &mut [u8; CAPACITY], low: u64, top: u64) -> u64
     requires low_le_top { ((low ≤ top) × (top ≤ low + capacity)) × (top ≤ ceiling) }
     ensures { Advanced marks.old low top marks.new result }
 {
@@ -54,8 +52,7 @@ pub fn advance(marks: &mut [u8], low: u64, top: u64) -> u64
 }
 
 // Positions a to the end of src, which starts at p: from edge on nothing has arrived. Below it what has arrived is passed at once up to the first position that is missing.
-fn lay(ring: &mut [u8], marks: &mut [u8], p: u64, src: &[u8], a: u64, edge: u64)
-    requires ring_len { (length ring.old ≡ capacity) × (length marks.old ≡ capacity) }
+fn lay(ring: &mut [u8; CAPACITY], marks: &mut [u8; CAPACITY], p: u64, src: &[u8], a: u64, edge: u64)
     requires p_le_a { ((p ≤ a) × (a ≤ edge)) × ((edge ≤ p + length src.now) × (p + length src.now ≤ a + capacity)) }
     requires src_len_bound { (length src.now ≤ capacity) × (p + length src.now ≤ ceiling) }
     ensures { Laid ring.old marks.old p src.now a edge (p + length src.now) ring.new marks.new }
@@ -68,8 +65,14 @@ fn lay(ring: &mut [u8], marks: &mut [u8], p: u64, src: &[u8], a: u64, edge: u64)
 }
 
 /// Every byte of src at low or above goes where it is missing: straight from high on, or where none of them has arrived; else byte by byte.
-pub fn place(ring: &mut [u8], marks: &mut [u8], p: u64, src: &[u8], low: u64, high: u64)
-    requires ring_len { (length ring.old ≡ capacity) × (length marks.old ≡ capacity) }
+pub fn place(
+    ring: &mut [u8; CAPACITY],
+    marks: &mut [u8; CAPACITY],
+    p: u64,
+    src: &[u8],
+    low: u64,
+    high: u64,
+)
     requires low_bound { (low ≤ p + length src.now) × (p + length src.now ≤ low + capacity) }
     requires src_len_bound { (length src.now ≤ capacity) × (p + length src.now ≤ ceiling) }
     ensures { Placed ring.old marks.old p src.now low high ring.new marks.new }

@@ -17,6 +17,6 @@ abbrev pub taken_of : Result (ℕ × Bool) Refusal → ℕ
 taken_of (Ok x) = x.0
 taken_of (Err r) = 0
 
-abbrev pub ended_of : ℕ → Result (ℕ × Bool) Refusal → ℕ
-ended_of e (Ok x) = from_bool x.1
-ended_of e (Err r) = e
+abbrev pub ended_or : ℕ → Result (ℕ × Bool) Refusal → ℕ
+ended_or e (Ok x) = from_bool x.1
+ended_or e (Err r) = e

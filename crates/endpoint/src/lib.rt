@@ -1,9 +1,9 @@
-// An end on lent buffers: the six calls of 01 section 1.
+// An end on lent buffers: the six calls of 01 section 1. What is lent is a parameter each, as C has them.
 #![tactic(auto)]
 
 ghost use Rattle.std.specs.Prelude.{◌≡◌, ℕ, ◌<◌, IfOk};
 ghost use Rattle.refusals.specs.Refusals.{row_of};
-ghost use Rattle.endpoint.specs.Answer.{answer_of, value_of, taken_of, ended_of};
+ghost use Rattle.endpoint.specs.Answer.{answer_of, value_of, taken_of, ended_or};
 ghost use Rattle.endpoint.specs.Calls.{open_row, Opens, Gives, Finishes, Hears, Takes, Ticks};
 
 use refusals::Refusal;
@@ -79,7 +79,7 @@ pub fn sluice_take(
     incoming: &[u8],
     out: &mut [u8],
 ) -> Result<(u64, bool), Refusal>
-    ensures takes { (e : ℕ) → Takes table.old incoming.now out.old e (answer_of (row_of result) (taken_of result)) table.new out.new (ended_of e result) }
+    ensures takes { (e : ℕ) → Takes table.old incoming.now out.old e (answer_of (row_of result) (taken_of result)) table.new out.new (ended_or e result) }
     ensures small { IfOk result (λ taken. taken.0 < 4294967296) }
 {
     ready(table, incoming.len(), CAPACITY)?;

@@ -33,7 +33,7 @@ fn value(answer: Result<u64, Refusal>) -> i64
     }
 }
 
-// open epoch, R: a fresh end. The table is written in every word that an end relies on, and the marks are cleared.
+/// open epoch, R: a fresh end. The table is written in every word that an end relies on, and the marks are cleared.
 #[unsafe(no_mangle)]
 pub extern "C" fn sluice_open(
     table: &mut [u64],
@@ -48,7 +48,7 @@ pub extern "C" fn sluice_open(
     done(endpoint::sluice_open(table, outgoing, incoming, marks, epoch, interval))
 }
 
-// give bytes: takes as many of them, from the first on, as there is room for, and answers how many.
+/// give bytes: takes as many of them, from the first on, as there is room for, and answers how many.
 #[unsafe(no_mangle)]
 pub extern "C" fn sluice_give(table: &mut [u64], outgoing: &mut [u8], bytes: &[u8]) -> i64
     ensures { Gives table.old outgoing.old bytes.now result table.new outgoing.new }
@@ -56,7 +56,7 @@ pub extern "C" fn sluice_give(table: &mut [u64], outgoing: &mut [u8], bytes: &[u
     value(endpoint::sluice_give(table, outgoing, bytes))
 }
 
-// finish: no more bytes will be given.
+/// finish: no more bytes will be given.
 #[unsafe(no_mangle)]
 pub extern "C" fn sluice_finish(table: &mut [u64]) -> i64
     ensures { Finishes table.old result table.new }
@@ -64,7 +64,7 @@ pub extern "C" fn sluice_finish(table: &mut [u64]) -> i64
     done(endpoint::sluice_finish(table))
 }
 
-// take: hands up as many of the bytes that are next as out has room for, and answers how many; *ended is 1 where the END has been reached.
+/// take: hands up as many of the bytes that are next as out has room for, and answers how many; *ended is 1 where the END has been reached.
 #[unsafe(no_mangle)]
 pub extern "C" fn sluice_take(
     table: &mut [u64],
@@ -83,7 +83,7 @@ pub extern "C" fn sluice_take(
     }
 }
 
-// datagram bytes: one datagram from the network, of any length. Answers 0, or minus the number of its refusal.
+/// datagram bytes: one datagram from the network, of any length. Answers 0, or minus the number of its refusal.
 #[unsafe(no_mangle)]
 pub extern "C" fn sluice_datagram(
     table: &mut [u64],
@@ -96,7 +96,7 @@ pub extern "C" fn sluice_datagram(
     done(endpoint::sluice_datagram(table, incoming, marks, bytes))
 }
 
-// tick: the clock moves on by one. Writes the datagrams to be sent now into out, one after the other, and answers their bytes in all.
+/// tick: the clock moves on by one. Writes the datagrams to be sent now into out, one after the other, and answers their bytes in all.
 #[unsafe(no_mangle)]
 pub extern "C" fn sluice_tick(table: &mut [u64], outgoing: &[u8], out: &mut [u8]) -> i64
     ensures { Ticks table.old outgoing.now out.old result table.new out.new }

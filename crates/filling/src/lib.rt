@@ -3,25 +3,31 @@
 
 ghost use Rattle.std.specs.Prelude.{◌≡◌, true, ◌+◌, ◌≤◌, ◌<◌, length};
 ghost use Rattle.ring.specs.Ring.{capacity};
-ghost use Rattle.receiving.specs.Calls.{Lent, Room, New, Fills, Hears};
+ghost use Rattle.receiving.specs.Receiving.{Ranged};
+ghost use Rattle.receiving.specs.Calls.{Room, New, Fills, Hears};
 ghost use Rattle.holes.specs.Holes.{Fresh};
 
 use receiving::Scalars;
+use ring::CAPACITY;
 
 // Whether none of the positions from low to e - 1 has arrived.
 #[tactic(auto, using(crate::proofs::FillLaws::fresh_laws))]
-fn fresh(marks: &[u8], s: Scalars, e: u64) -> bool
-    requires marks_len { length marks.now ≡ capacity }
+fn fresh(marks: &[u8; CAPACITY], s: Scalars, e: u64) -> bool
     requires low_le_e { (s.low ≤ e) × (e ≤ s.low + capacity) }
     ensures { result ≡ true → Fresh marks.now s e }
 {
     e <= s.tail && !finding::any(marks, s.low, e)
 }
 
-// Its arguments, and those below, stay as they are for the reason at `holes::slow`.
-// In order. Where nothing lies beyond the lowest missing position it is one copy, and no mark is touched.
-fn in_order(ring: &mut [u8], marks: &mut [u8], s: Scalars, p: u64, src: &[u8]) -> Scalars
-    requires lent { Lent s ring.old marks.old }
+// In order. Where nothing lies beyond the lowest missing position it is one copy, and no mark is touched. The arguments, here and below, stay for the reason at `holes::slow`.
+fn in_order(
+    ring: &mut [u8; CAPACITY],
+    marks: &mut [u8; CAPACITY],
+    s: Scalars,
+    p: u64,
+    src: &[u8],
+) -> Scalars
+    requires ranged { Ranged s }
     requires new { New s p (length src.now) }
     requires p_le_low { p ≤ s.low }
     ensures { Fills ring.old marks.old s p src.now ring.new marks.new result }
@@ -43,8 +49,14 @@ fn in_order(ring: &mut [u8], marks: &mut [u8], s: Scalars, p: u64, src: &[u8]) -
 }
 
 // Beyond the lowest missing position. Right after all that has arrived the last stretch grows, and no mark is touched.
-fn beyond(ring: &mut [u8], marks: &mut [u8], s: Scalars, p: u64, src: &[u8]) -> Scalars
-    requires lent { Lent s ring.old marks.old }
+fn beyond(
+    ring: &mut [u8; CAPACITY],
+    marks: &mut [u8; CAPACITY],
+    s: Scalars,
+    p: u64,
+    src: &[u8],
+) -> Scalars
+    requires ranged { Ranged s }
     requires new { New s p (length src.now) }
     requires low_lt_p { s.low < p }
     ensures { Fills ring.old marks.old s p src.now ring.new marks.new result }
@@ -64,8 +76,14 @@ fn beyond(ring: &mut [u8], marks: &mut [u8], s: Scalars, p: u64, src: &[u8]) -> 
 
 // A DATA's bytes.
 #[tactic(auto, using(crate::proofs::FillLaws::fill_laws))]
-fn fill(ring: &mut [u8], marks: &mut [u8], s: Scalars, p: u64, src: &[u8]) -> Scalars
-    requires lent { Lent s ring.old marks.old }
+fn fill(
+    ring: &mut [u8; CAPACITY],
+    marks: &mut [u8; CAPACITY],
+    s: Scalars,
+    p: u64,
+    src: &[u8],
+) -> Scalars
+    requires ranged { Ranged s }
     requires room { Room s p (length src.now) }
     ensures { Fills ring.old marks.old s p src.now ring.new marks.new result }
 {
@@ -82,9 +100,16 @@ fn fill(ring: &mut [u8], marks: &mut [u8], s: Scalars, p: u64, src: &[u8]) -> Sc
     beyond(ring, marks, s, p, src)
 }
 
-// An accepted DATA: its bytes, and where e, its flags as they came, is 1 the END right after them.
-pub fn hear(ring: &mut [u8], marks: &mut [u8], s: Scalars, p: u64, src: &[u8], e: u64) -> Scalars
-    requires lent { Lent s ring.old marks.old }
+/// An accepted DATA: its bytes, and where e, its flags as they came, is 1 the END right after them.
+pub fn hear(
+    ring: &mut [u8; CAPACITY],
+    marks: &mut [u8; CAPACITY],
+    s: Scalars,
+    p: u64,
+    src: &[u8],
+    e: u64,
+) -> Scalars
+    requires ranged { Ranged s }
     requires room { Room s p (length src.now) }
     ensures { Hears ring.old marks.old s p src.now e ring.new marks.new result }
 {

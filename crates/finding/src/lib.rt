@@ -1,4 +1,5 @@
 // 01 section 5: marks are searched: single ones up to a whole byte, whole bytes, and single ones after them.
+// Where none is found the answer is b, the end of the stretch, and no None: `Finds` and `Runs` say so, and callers go on from there.
 #![tactic(auto)]
 
 mod search;
@@ -9,9 +10,10 @@ ghost use Rattle.std.specs.Int.{from_bool};
 ghost use Rattle.marks.specs.Stretches.{Whole, Straight};
 ghost use Rattle.finding.specs.Finding.{Skips, Finds, Runs, Unmarked};
 
+use ring::CAPACITY;
+
 // The first position from a on whose mark is not v, or b, one by one.
-fn find_each(m: &[u8], a: u64, b: u64, v: bool) -> u64
-    requires m_len { length m.now ≡ capacity }
+fn find_each(m: &[u8; CAPACITY], a: u64, b: u64, v: bool) -> u64
     requires a_le_b { a ≤ b }
     ensures { Finds m.now (from_bool v) a b result }
 {
@@ -24,8 +26,7 @@ fn find_each(m: &[u8], a: u64, b: u64, v: bool) -> u64
 }
 
 // Passes whole bytes in which each mark is v, none beyond the seam.
-fn skip_bytes(m: &[u8], a: u64, b: u64, v: bool) -> u64
-    requires m_len { length m.now ≡ capacity }
+fn skip_bytes(m: &[u8; CAPACITY], a: u64, b: u64, v: bool) -> u64
     requires straight { Straight a b }
     ensures { Skips m.now (from_bool v) a b result }
 {
@@ -36,8 +37,7 @@ fn skip_bytes(m: &[u8], a: u64, b: u64, v: bool) -> u64
 }
 
 // Whole bytes, in two parts at the seam.
-fn skip_whole(m: &[u8], a: u64, b: u64, v: bool) -> u64
-    requires m_len { length m.now ≡ capacity }
+fn skip_whole(m: &[u8; CAPACITY], a: u64, b: u64, v: bool) -> u64
     requires whole { Whole a b }
     ensures { Skips m.now (from_bool v) a b result }
 {
@@ -50,8 +50,7 @@ fn skip_whole(m: &[u8], a: u64, b: u64, v: bool) -> u64
 }
 
 // The first position from a on whose mark is not v, or b.
-fn find(m: &[u8], a: u64, b: u64, v: bool) -> u64
-    requires m_len { length m.now ≡ capacity }
+fn find(m: &[u8; CAPACITY], a: u64, b: u64, v: bool) -> u64
     requires a_le_b { (a ≤ b) × (b ≤ a + capacity) }
     ensures { Finds m.now (from_bool v) a b result }
 {
@@ -69,8 +68,7 @@ fn find(m: &[u8], a: u64, b: u64, v: bool) -> u64
 }
 
 /// The first position from low on without a mark, or top. Mostly it is low itself.
-pub fn run(m: &[u8], low: u64, top: u64) -> u64
-    requires m_len { length m.now ≡ capacity }
+pub fn run(m: &[u8; CAPACITY], low: u64, top: u64) -> u64
     requires low_le_top { (low ≤ top) × (top ≤ low + capacity) }
     ensures { Runs m.now low top result }
 {
@@ -81,8 +79,7 @@ pub fn run(m: &[u8], low: u64, top: u64) -> u64
 }
 
 /// Whether a position of a .. b - 1 has a mark.
-pub fn any(m: &[u8], a: u64, b: u64) -> bool
-    requires m_len { length m.now ≡ capacity }
+pub fn any(m: &[u8; CAPACITY], a: u64, b: u64) -> bool
     requires a_le_b { (a ≤ b) × (b ≤ a + capacity) }
     ensures { Unmarked m.now a b (from_bool result) }
 {

@@ -46,7 +46,7 @@ fn rows(h: Header, n: u64) -> Result<(), Refusal>
     }
 }
 
-// Refusal 1 or 2, where a datagram's form is wrong. Looks at its header and its length only.
+/// Refusal 1 or 2, where a datagram's form is wrong. Looks at its header and its length only.
 #[tactic(auto, using(laws::specs::RowsLaws::rows, wire::proofs::ReadingLaws::form_rows), unfolding(wire::specs::Reading::form_of))]
 pub fn form(d: &[u8]) -> Result<(), Refusal>
     ensures { row_of result ≡ form_of d.now }

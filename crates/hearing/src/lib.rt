@@ -13,6 +13,7 @@ ghost use Rattle.hearing.specs.Hearing.{place_row, judge_row, hear_row, Noted, D
 ghost use Rattle.hearing.specs.Judged.{Judged, Hearing, HearReady};
 
 use refusals::Refusal;
+use ring::CAPACITY;
 use sending::Line;
 use table::{
     Common, ENDS, RECEIVES, SENDS, Sends, TIMES, WINDOW, common_in, save_common, save_scalars,
@@ -43,11 +44,11 @@ fn judge(t: &[u64], h: Header) -> Result<(), Refusal>
     if h.epoch != c.epoch {
         return Err(Refusal::Epoch);
     }
-    window::verdict(c.high, &t[WINDOW..ENDS], h.number)?;
+    window::verdict(c.high, t[WINDOW..ENDS].as_array().unwrap(), h.number)?;
     place(t, h)
 }
 
-// Refusals 1 to 9.
+/// Refusals 1 to 9.
 #[tactic(auto, using(crate::proofs::HearingLaws::rows, crate::proofs::HearingLaws::form_header))]
 pub fn hear_row(t: &[u64], d: &[u8]) -> Result<(), Refusal>
     requires { (table_words ≤ length t.now) × Ready (sections_of t.now) }
@@ -57,13 +58,14 @@ pub fn hear_row(t: &[u64], d: &[u8]) -> Result<(), Refusal>
     judge(t, wire::fields(d))
 }
 
-// Marks the number of an accepted datagram.
+// Marks the number of an accepted datagram. due is the table's word, as `Noted` has it.
 fn note(t: &mut [u64], number: u64, due: u64)
     requires { (table_words ≤ length t.old) × ((0 < number) × ((common_of (sections_of t.old).common).high < number + width)) }
     ensures { Noted t.old number due t.new }
 {
     let c = common_in(t);
-    let high = window::accept(c.high, &mut t[WINDOW..ENDS], number);
+    let (_, after) = t.split_at_mut(WINDOW);
+    let high = window::accept(c.high, after.first_chunk_mut().unwrap(), number);
     save_common(&mut t[0..SENDS], Common { due, high, ..c });
 }
 
@@ -74,10 +76,9 @@ fn data(t: &mut [u64], incoming: &mut [u8], marks: &mut [u8], d: &[u8], h: Heade
     ensures { DataDone t.old incoming.old marks.old d.now h t.new incoming.new marks.new }
 {
     let s = scalars_in(t);
-    let k = ring::size();
     let v = filling::hear(
-        &mut incoming[0..k],
-        &mut marks[0..k],
+        incoming.first_chunk_mut::<CAPACITY>().unwrap(),
+        marks.first_chunk_mut::<CAPACITY>().unwrap(),
         s,
         h.position,
         &d[32..],
@@ -97,7 +98,7 @@ fn ack(t: &mut [u64], h: Header)
 {
     let c = common_in(t);
     let Sends { line, row, probed } = sends_in(t);
-    let row = sending::ack(&t[ENDS..TIMES], row, h.position);
+    let row = sending::ack(t[ENDS..TIMES].as_array().unwrap(), row, h.position);
     let g = sending::grant(line.limit, probed, h.position + h.credit);
     note(t, h.number, c.due);
     save_sends(
@@ -113,7 +114,7 @@ fn ack(t: &mut [u64], h: Header)
     );
 }
 
-// An accepted datagram.
+/// An accepted datagram.
 #[tactic(auto, using(crate::proofs::HearingLaws::heard))]
 pub fn hear(t: &mut [u64], incoming: &mut [u8], marks: &mut [u8], d: &[u8])
     requires { HearReady t.old (length incoming.old) (length marks.old) d.now }

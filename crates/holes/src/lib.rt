@@ -2,15 +2,22 @@
 #![tactic(auto)]
 
 ghost use Rattle.std.specs.Prelude.{◌+◌, ◌≤◌, ◌<◌, length};
-ghost use Rattle.receiving.specs.Calls.{Lent, New, Fills};
+ghost use Rattle.receiving.specs.Receiving.{Ranged};
+ghost use Rattle.receiving.specs.Calls.{New, Fills};
 ghost use Rattle.holes.specs.Holes.{Fresh};
 
 use receiving::Scalars;
+use ring::CAPACITY;
 
-// The five arguments stay: a struct that holds two `&mut` has to promise in each function that it still holds the same two, and with one of p and src alone each promise says `d.entry.position` for p.
-// Over positions of which some have arrived: the last stretch gets its marks, and is empty after.
-pub fn slow(ring: &mut [u8], marks: &mut [u8], s: Scalars, p: u64, src: &[u8]) -> Scalars
-    requires lent { Lent s ring.old marks.old }
+/// Over positions of which some have arrived: the last stretch gets its marks, and is empty after. The five arguments stay: a struct that holds two `&mut` has to promise in each function that it still holds the same two, and with one of p and src alone each promise says `d.entry.position` for p.
+pub fn slow(
+    ring: &mut [u8; CAPACITY],
+    marks: &mut [u8; CAPACITY],
+    s: Scalars,
+    p: u64,
+    src: &[u8],
+) -> Scalars
+    requires ranged { Ranged s }
     requires new { New s p (length src.now) }
     ensures { Fills ring.old marks.old s p src.now ring.new marks.new result }
 {
@@ -26,9 +33,15 @@ pub fn slow(ring: &mut [u8], marks: &mut [u8], s: Scalars, p: u64, src: &[u8]) -
     }
 }
 
-// Beyond a new hole: the last stretch gets its marks, and the bytes are the next one.
-pub fn leap(ring: &mut [u8], marks: &mut [u8], s: Scalars, p: u64, src: &[u8]) -> Scalars
-    requires lent { Lent s ring.old marks.old }
+/// Beyond a new hole: the last stretch gets its marks, and the bytes are the next one.
+pub fn leap(
+    ring: &mut [u8; CAPACITY],
+    marks: &mut [u8; CAPACITY],
+    s: Scalars,
+    p: u64,
+    src: &[u8],
+) -> Scalars
+    requires ranged { Ranged s }
     requires new { New s p (length src.now) }
     requires high_lt_p { s.high < p }
     ensures { Fills ring.old marks.old s p src.now ring.new marks.new result }
@@ -42,9 +55,15 @@ pub fn leap(ring: &mut [u8], marks: &mut [u8], s: Scalars, p: u64, src: &[u8]) -
     }
 }
 
-// In order, and none of the positions has arrived: one copy, and then low passes what has arrived beyond.
-pub fn follow(ring: &mut [u8], marks: &mut [u8], s: Scalars, p: u64, src: &[u8]) -> Scalars
-    requires lent { Lent s ring.old marks.old }
+/// In order, and none of the positions has arrived: one copy, and then low passes what has arrived beyond.
+pub fn follow(
+    ring: &mut [u8; CAPACITY],
+    marks: &mut [u8; CAPACITY],
+    s: Scalars,
+    p: u64,
+    src: &[u8],
+) -> Scalars
+    requires ranged { Ranged s }
     requires new { New s p (length src.now) }
     requires p_le_low { p ≤ s.low }
     requires fresh { Fresh marks.old s (p + length src.now) }

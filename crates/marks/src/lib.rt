@@ -1,4 +1,5 @@
 // 01 section 5: a mark for each position beyond the lowest missing one, a bit each: eight positions are one byte.
+// The ends a and b of a stretch are two parameters, here and above: a struct of them is taken apart in each clause (`Marked`, `Finds`, `Runs`, `Advanced`) and made anew for each part of a stretch, so it is no plainer.
 #![tactic(auto)]
 
 ghost use Rattle.std.specs.Prelude.{◌≡◌, ◌+◌, ◌*◌, ◌/◌, ◌%◌, ◌≤◌, length};
@@ -6,6 +7,8 @@ ghost use Rattle.ring.specs.Ring.{capacity};
 ghost use Rattle.std.specs.Int.{from_bool};
 ghost use Rattle.marks.specs.Marks.{mark};
 ghost use Rattle.marks.specs.Stretches.{Put, Marked, Up, Whole, Straight, Parts};
+
+use ring::CAPACITY;
 
 /// The index of the byte that has the mark of q.
 pub fn byte(q: u64) -> usize
@@ -15,16 +18,14 @@ pub fn byte(q: u64) -> usize
 }
 
 /// Whether q has its mark.
-pub fn test(m: &[u8], q: u64) -> bool
-    requires { length m.now ≡ capacity }
+pub fn test(m: &[u8; CAPACITY], q: u64) -> bool
     ensures { from_bool result ≡ mark m.now q }
 {
     m[byte(q)] >> (q % 8) & 1 == 1
 }
 
 /// Sets the mark of q, or clears it where v is false.
-pub fn put(m: &mut [u8], q: u64, v: bool)
-    requires { length m.old ≡ capacity }
+pub fn put(m: &mut [u8; CAPACITY], q: u64, v: bool)
     ensures { Put m.old q (from_bool v) m.new }
 {
     let i = byte(q);
@@ -37,8 +38,7 @@ pub fn put(m: &mut [u8], q: u64, v: bool)
 }
 
 // Sets or clears each mark of a .. b - 1, one by one.
-fn put_each(m: &mut [u8], a: u64, b: u64, v: bool)
-    requires m_len { length m.old ≡ capacity }
+fn put_each(m: &mut [u8; CAPACITY], a: u64, b: u64, v: bool)
     requires a_le_b { (a ≤ b) × (b ≤ a + capacity) }
     ensures { Marked m.old a b (from_bool v) m.new }
 {
@@ -48,8 +48,7 @@ fn put_each(m: &mut [u8], a: u64, b: u64, v: bool)
 }
 
 // The same where they are whole bytes, none beyond the seam.
-fn put_bytes(m: &mut [u8], a: u64, b: u64, v: bool)
-    requires m_len { length m.old ≡ capacity }
+fn put_bytes(m: &mut [u8; CAPACITY], a: u64, b: u64, v: bool)
     requires straight { Straight a b }
     ensures { Marked m.old a b (from_bool v) m.new }
 {
@@ -78,13 +77,12 @@ pub fn seam(a: u64, b: u64) -> u64
     requires { Whole a b }
     ensures { Parts a b result }
 {
-    let room = (ring::CAPACITY - ring::index(a)) as u64;
+    let room = (CAPACITY - ring::index(a)) as u64;
     a + room.min(b - a)
 }
 
 // Whole bytes, in two parts at the seam.
-fn put_whole(m: &mut [u8], a: u64, b: u64, v: bool)
-    requires m_len { length m.old ≡ capacity }
+fn put_whole(m: &mut [u8; CAPACITY], a: u64, b: u64, v: bool)
     requires whole { Whole a b }
     ensures { Marked m.old a b (from_bool v) m.new }
 {
@@ -94,8 +92,7 @@ fn put_whole(m: &mut [u8], a: u64, b: u64, v: bool)
 }
 
 /// Sets or clears each mark of a .. b - 1: whole bytes at once, and one by one before and after them.
-pub fn put_all(m: &mut [u8], a: u64, b: u64, v: bool)
-    requires m_len { length m.old ≡ capacity }
+pub fn put_all(m: &mut [u8; CAPACITY], a: u64, b: u64, v: bool)
     requires a_le_b { (a ≤ b) × (b ≤ a + capacity) }
     ensures { Marked m.old a b (from_bool v) m.new }
 {

@@ -2,10 +2,11 @@
 #![tactic(auto)]
 
 ghost use Rattle.std.specs.Prelude.{◌≡◌, ◌++◌, ◌+◌, ◌≤◌, length};
-ghost use Rattle.ring.specs.Ring.{capacity, span};
+ghost use Rattle.ring.specs.Ring.{span};
 ghost use Rattle.wire.specs.Datagram.{head_size, payload_most, PROBE, head_of, encode};
 ghost use Rattle.output.specs.Output.{size_of, data_of, datagram_most, SentOne};
 
+use ring::CAPACITY;
 use wire::{HEAD_SIZE, Header, Kind, PAYLOAD_MOST};
 
 // The bytes before the payload.
@@ -19,8 +20,8 @@ fn size(given: u64, from: u64, to: u64) -> u64
 }
 
 // A datagram with its payload, the h.length bytes of the ring from h.position on, in all of out.
-fn put_data(out: &mut [u8], ring: &[u8], h: Header)
-    requires { (h.length ≤ payload_most) × ((length out.old ≡ head_size + h.length) × (length ring.now ≡ capacity)) }
+fn put_data(out: &mut [u8], ring: &[u8; CAPACITY], h: Header)
+    requires { (h.length ≤ payload_most) × (length out.old ≡ head_size + h.length) }
     ensures { out.new ≡ head_of h ++ span ring.now h.position h.length }
 {
     let (head, payload) = out.split_at_mut(HEAD);
@@ -28,18 +29,18 @@ fn put_data(out: &mut [u8], ring: &[u8], h: Header)
     ring::ring_get(payload, ring, h.position);
 }
 
-/// The DATA with that number of the segment from..to, at o of out. Answers its length. The parameters are those of `encode` and `data_of`, one by one: no caller has them together.
+/// The DATA with that number of the segment from..to, at o of out. Answers its length. The parameters are those of `encode`, `data_of` and `SentOne`, one by one: callers have epoch and number in a `Stamp`, which stands above this crate and has the number used last.
 pub fn send_data(
     out: &mut [u8],
     o: usize,
-    ring: &[u8],
+    ring: &[u8; CAPACITY],
     epoch: u64,
     number: u64,
     given: u64,
     from: u64,
     to: u64,
 ) -> usize
-    requires { (o + datagram_most ≤ length out.old) × (length ring.now ≡ capacity) }
+    requires { o + datagram_most ≤ length out.old }
     ensures { SentOne out.old o (encode epoch number (data_of given (span ring.now) from to)) result out.new }
 {
     let length = size(given, from, to);

@@ -6,7 +6,7 @@ use Rattle.ring.specs.Ring.{capacity}
 use Rattle.receiving.specs.Receiving.{end_of, end_at, fresh, fill_of, hear_of, take_of, got_of, refusal_by, Ranged, Sound, receiving_of}
 use Rattle.receiving.specs.declared.Scalars.{Scalars}
 
--- what is asked of buffers and scalars
+-- buffers and scalars that a call may be asked with
 pub record Lent (s : Scalars) (ring marks : List ℕ) : Type 0 where
   pub ring_size : length ring ≡ capacity
   pub marks_size : length marks ≡ capacity

@@ -11,7 +11,7 @@ use refusals::Refusal;
 use ring::CAPACITY;
 use wire::CEILING;
 
-// Bytes below taken are with the host. low is the lowest missing position, high one more than the highest that has arrived, or taken; all from tail up to high have arrived. end is the END's position where known is not 0.
+/// Bytes below taken are with the host. low is the lowest missing position, high one more than the highest that has arrived, or taken; all from tail up to high have arrived. end is the END's position where known is not 0.
 #[derive(Clone, Copy, Default)]
 pub struct Scalars {
     pub taken: u64,
@@ -22,9 +22,9 @@ pub struct Scalars {
     pub end: u64,
 }
 
-// Ranged stays a `requires` and is no invariant of the type: a damaged table has other scalars, which `plausible` is asked about.
+// Ranged stays a `requires` and is no invariant of the type: a damaged table has other scalars, which `plausible` is asked about. A second type for those that are ranged is no plainer: `New`, `Fills` and `Takes` speak of Scalars before and after.
 impl Scalars {
-    // Whether they may be an end's.
+    /// Whether they may be an end's.
     #[tactic(auto, unfolding(crate::specs::Receiving::plausible_of))]
     pub fn plausible(self) -> bool
         ensures { result ≡ plausible_of self }
@@ -72,7 +72,7 @@ impl Scalars {
         Ok(())
     }
 
-    // Judges a DATA of n bytes at position p. e is its flags as they came, of which 1 says END: all is said of any number.
+    /// Judges a DATA of n bytes at position p. e is its flags as they came, of which 1 says END: all is said of any number. `refusal` has the three one by one.
     #[tactic(auto, using(crate::proofs::JudgeLaws::judge_laws))]
     pub fn judge(self, p: u64, n: u64, e: u64) -> Result<(), Refusal>
         requires { Ranged self }
@@ -90,7 +90,7 @@ impl Scalars {
         self.end() == Some(q)
     }
 
-    // Whether every byte before the END has been taken.
+    /// Whether every byte before the END has been taken.
     #[tactic(auto, unfolding(crate::specs::Calls::ended_by))]
     pub fn ended(self) -> bool
         ensures { from_bool result ≡ ended_by self }
@@ -98,7 +98,7 @@ impl Scalars {
         self.end_at(self.taken)
     }
 
-    // The position of an ACK.
+    /// The position of an ACK.
     #[tactic(auto, unfolding(crate::specs::Calls::position_by))]
     pub fn position(self) -> u64
         requires { Ranged self }
@@ -107,7 +107,7 @@ impl Scalars {
         self.low + u64::from(self.end_at(self.low))
     }
 
-    // The credit of an ACK.
+    /// The credit of an ACK.
     #[tactic(auto, unfolding(crate::specs::Calls::credit_by))]
     pub fn credit(self) -> u64
         requires { Ranged self }

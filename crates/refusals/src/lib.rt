@@ -1,7 +1,8 @@
 // 01 section 3: why a call is refused.
 #![tactic(auto)]
 
-ghost use Rattle.std.specs.Prelude.{◌≡◌};
+ghost use Rattle.std.specs.Prelude.{◌≡◌, ◌++◌, Some, codes};
+ghost use Rattle.std.specs.Fmt.{decimal};
 ghost use Rattle.refusals.specs.Refusals.{number_of};
 
 use std::fmt;
@@ -47,6 +48,8 @@ impl From<Refusal> for u64 {
 }
 
 impl fmt::Display for Refusal {
+    ghost output = { λ refusal. Some (codes "refused with " ++ decimal (number_of refusal)) };
+
     fn fmt<W: fmt::Write>(&self, f: &mut fmt::Formatter<W>) -> fmt::Result {
         write!(f, "refused with {}", u64::from(*self))
     }

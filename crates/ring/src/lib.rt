@@ -7,13 +7,6 @@ ghost use Rattle.ring.specs.Ring.{capacity, Put, Got};
 /// The bytes of a ring: the byte of position p stands at p % CAPACITY.
 pub const CAPACITY: usize = 65536;
 
-/// CAPACITY, known to a caller's proof by its contract only: the number itself makes a proof slow.
-pub fn size() -> usize
-    ensures { result ≡ capacity }
-{
-    CAPACITY
-}
-
 /// The index at which the byte of the position pos stands.
 pub fn index(pos: u64) -> usize
     ensures { result ≡ pos % capacity }
@@ -30,8 +23,7 @@ pub fn before_seam(at: usize, n: usize) -> usize
 }
 
 /// Writes src into the ring from the position pos on.
-pub fn ring_put(ring: &mut [u8], pos: u64, src: &[u8])
-    requires ring_len { length ring.old ≡ capacity }
+pub fn ring_put(ring: &mut [u8; CAPACITY], pos: u64, src: &[u8])
     requires src_len_bound { length src.now ≤ capacity }
     ensures { Put ring.old pos src.now ring.new }
 {
@@ -42,8 +34,7 @@ pub fn ring_put(ring: &mut [u8], pos: u64, src: &[u8])
 }
 
 /// Reads dst.len() bytes of the ring from the position pos on.
-pub fn ring_get(dst: &mut [u8], ring: &[u8], pos: u64)
-    requires ring_len { length ring.now ≡ capacity }
+pub fn ring_get(dst: &mut [u8], ring: &[u8; CAPACITY], pos: u64)
     requires dst_len_bound { length dst.old ≤ capacity }
     ensures { Got ring.now pos (length dst.old) dst.new }
 {

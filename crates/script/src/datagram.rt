@@ -19,7 +19,7 @@ fn header(line: Line<'_>, payload: usize) -> Header {
     }
 }
 
-/// The datagram of a line, in the first `size` bytes.
+/// The datagram of a line, in the first `size` bytes (an array, as there is no heap).
 #[derive(Clone, Copy)]
 pub struct Datagram {
     bytes: [u8; 2048],
@@ -37,7 +37,9 @@ impl Datagram {
         Datagram { bytes, size }
     }
 
-    pub fn as_slice(&self) -> &[u8] {
+    pub fn as_slice(&self) -> &[u8]
+        ensures { length result.now ≤ 2048 }
+    {
         &self.bytes[..self.size]
     }
 }

@@ -115,17 +115,15 @@ impl<'a> Line<'a> {
         letters(self.words().nth(1).unwrap_or(b""))
     }
 
-    /// What follows the word, which is nothing in a line without it.
+    /// What follows the word, which is nothing in a line without it: callers take the two alike.
     pub fn after(self, word: &[u8]) -> &'a [u8]
         ensures { length result.now ≤ length self.entry.bytes.now }
     {
         let mut words = self.words();
-        while let Some(w) = words.next() {
-            if letters(w) == word {
-                return words.rest;
-            }
+        match words.find(|w| letters(w) == word) {
+            Some(_) => words.rest,
+            None => b"",
         }
-        b""
     }
 
     /// The number after the word, or `other` in a line without it.
@@ -143,13 +141,13 @@ impl<'a> Line<'a> {
         (self.number(word, other as u64) as usize).min(most)
     }
 
-    /// The byte after the word `of`, or 0.
+    /// The byte after the word `of`. A line without it means zeros.
     pub fn letter(self) -> u8 {
         self.after(b"of").first().copied().unwrap_or(0)
     }
 }
 
-/// As many of a byte as `give` can name: a segment's worth more than a buffer has.
+/// As many of a byte as `give` can name: a segment's worth more than a buffer has. An array, as there is no heap.
 pub fn many(byte: u8) -> [u8; 66560]
     ensures { 66560 ≡ length result }
 {

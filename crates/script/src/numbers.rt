@@ -4,12 +4,13 @@ ghost use Rattle.window.specs.Marks.{Accepts};
 
 use super::Line;
 use refusals::Refusal;
+use window::WORDS;
 
 /// The highest number accepted, and the marks.
 #[derive(Clone, Copy)]
 pub struct Window {
     pub high: u64,
-    pub marks: [u64; 16],
+    pub marks: [u64; WORDS],
 }
 
 impl Window {
@@ -19,7 +20,7 @@ impl Window {
     {
         Window {
             high: 0,
-            marks: [0; 16],
+            marks: [0; WORDS],
         }
     }
 

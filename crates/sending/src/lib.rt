@@ -1,8 +1,7 @@
-// The sending side but its datagrams, 01 section 6, with give and finish of section 1.
+// The sending side but its datagrams, 01 section 6, with give and finish of section 1. Line and Row are declared in `segments`, so what is done with them here is no method.
 #![tactic(auto)]
 
 ghost use Rattle.std.specs.Prelude.{◌≡◌, ◌+◌, ◌*◌, ◌≤◌, length};
-ghost use Rattle.ring.specs.Ring.{capacity};
 ghost use Rattle.segments.specs.Segments.{segments_most};
 ghost use Rattle.refusals.specs.Refusals.{row_of};
 ghost use Rattle.sending.specs.Giving.{room_of};
@@ -17,7 +16,7 @@ use segments::SEGMENTS;
 pub use segments::{Line, Row, Stamp, Tick};
 use wire::CEILING;
 
-// What a tick did: bytes and datagrams written; the next position, the segments kept, and one more than the tick of the last PROBE.
+/// What a tick did: bytes and datagrams written; the next position, the segments kept, and one more than the tick of the last PROBE.
 #[derive(Clone, Copy)]
 pub struct Sent {
     pub bytes: usize,
@@ -27,7 +26,7 @@ pub struct Sent {
     pub probed: u64,
 }
 
-// The limit, and the last PROBE since room ran out as the table's word: one more than its tick, or 0 for none. It stays a number: a tick of 2^64 - 1, which an Option could hold, has no word.
+/// The limit, and the last PROBE since room ran out as the table's word: one more than its tick, or 0 for none. It stays a number: `table::save_sends` stores any, and a tick of 2^64 - 1, which an Option could hold, has no word.
 #[derive(Clone, Copy)]
 pub struct Credit {
     pub limit: u64,
@@ -51,7 +50,7 @@ pub fn fresh_row() -> Row
     Row::default()
 }
 
-// Whether the scalars can be a sending side's.
+/// Whether the scalars can be a sending side's.
 pub fn plausible(l: Line, p: Row) -> bool
     ensures { Tells result (Plausible l p) }
 {
@@ -78,9 +77,8 @@ fn room(l: Line, acked: u64) -> u64
         .min(CEILING.saturating_sub(l.given))
 }
 
-// Takes as many of the bytes as there is room for, and answers how many.
-pub fn give(ring: &mut [u8], l: Line, acked: u64, bytes: &[u8]) -> u64
-    requires { length ring.old ≡ capacity }
+/// Takes as many of the bytes as there is room for, and answers how many.
+pub fn give(ring: &mut [u8; CAPACITY], l: Line, acked: u64, bytes: &[u8]) -> u64
     ensures { Gave l acked ring.old bytes.now result ring.new }
 {
     let n = room(l, acked).min(bytes.len() as u64);
@@ -88,14 +86,14 @@ pub fn give(ring: &mut [u8], l: Line, acked: u64, bytes: &[u8]) -> u64
     n
 }
 
-// No more bytes will be given.
+/// No more bytes will be given.
 pub fn finish(l: Line) -> Line
     ensures { result ≡ record { given = l.given; closed = 1; limit = l.limit } }
 {
     Line { closed: 1, ..l }
 }
 
-// Refuses an ACK at a position that was never sent.
+/// Refuses an ACK at a position that was never sent.
 #[tactic(auto, unfolding(laws::specs::Rows::when))]
 pub fn ack_refusal(next: u64, position: u64) -> Result<(), Refusal>
     ensures { row_of result ≡ ack_refusal next position }
@@ -106,10 +104,10 @@ pub fn ack_refusal(next: u64, position: u64) -> Result<(), Refusal>
     Ok(())
 }
 
-// An ACK at a position: drops the oldest segments that end there or before.
+/// An ACK at a position: drops the oldest segments that end there or before.
 #[tactic(auto, using(crate::proofs::Acking::acking_laws))]
-pub fn ack(ends: &[u64], p: Row, position: u64) -> Row
-    requires { (length ends.now ≡ segments_most) × (p.oldest + p.kept ≤ 2 * segments_most) }
+pub fn ack(ends: &[u64; SEGMENTS as usize], p: Row, position: u64) -> Row
+    requires { p.oldest + p.kept ≤ 2 * segments_most }
     ensures { Acked ends.now p position result }
 {
     let mut acked = p.acked;
@@ -134,7 +132,7 @@ pub fn ack(ends: &[u64], p: Row, position: u64) -> Row
     }
 }
 
-// An ACK that grants credit up to `top`, its position + credit: the limit never falls, and where it rises a PROBE is forgotten.
+/// An ACK that grants credit up to `top`, its position + credit: the limit never falls, and where it rises a PROBE is forgotten.
 #[tactic(auto, unfolding(crate::specs::Buffers::word_of))]
 pub fn grant(limit: u64, probed: u64, top: u64) -> Credit
     ensures { Granted limit probed top result }
@@ -159,7 +157,7 @@ fn ago(w: Tick, probed: u64) -> bool
     }
 }
 
-// Whether a PROBE is to leave, after `sent` others.
+/// Whether a PROBE is to leave, after `sent` others. The parameters are those of `probes_of`.
 #[tactic(auto, unfolding(crate::specs::Steps::probes_of))]
 pub fn probes(w: Tick, l: Line, probed: u64, next: u64, kept: u64, sent: u64) -> bool
     ensures { result ≡ probes_of w l (word_of probed) next kept sent }

@@ -4,10 +4,11 @@
 ghost use Rattle.segments.specs.Outcome.{Room, Resends, Cuts, Both};
 ghost use Rattle.sending.specs.Outcome.{Sends};
 
+use ring::CAPACITY;
 use segments::{Added, Line, Row, SEGMENTS, Stamp, Tick, Wrote};
 use sending::Sent;
 
-// What the steps of a tick go by. The lent slices stay arguments, and Room, which speaks of their lengths, a `requires`: step 2 only reads the ends that step 3 writes, and step 3 has the rest of out.
+/// What the steps of a tick go by. What is lent stays an argument: step 2 only reads the ends that step 3 writes, and step 3 has the rest of out. Room stays a `requires`: it speaks of out's length and the scalars too, and theorems stand on it.
 #[derive(Clone, Copy)]
 pub struct Step {
     pub tick: Tick,
@@ -18,7 +19,13 @@ pub struct Step {
 
 impl Step {
     // Step 2: sends again what is due, the oldest first.
-    fn resend(self, out: &mut [u8], ring: &[u8], ends: &[u64], times: &mut [u64]) -> Wrote
+    fn resend(
+        self,
+        out: &mut [u8],
+        ring: &[u8; CAPACITY],
+        ends: &[u64; SEGMENTS as usize],
+        times: &mut [u64; SEGMENTS as usize],
+    ) -> Wrote
         requires { Room self.tick self.stamp self.line self.row out.old ring.now ends.now times.old }
         ensures { Resends self.tick self.stamp self.line self.row ring.now ends.now times.old out.old result times.new out.new }
     {
@@ -45,7 +52,13 @@ impl Step {
     }
 
     // Step 3: cuts and sends new segments.
-    fn cut(self, out: &mut [u8], ring: &[u8], ends: &mut [u64], times: &mut [u64]) -> Added
+    fn cut(
+        self,
+        out: &mut [u8],
+        ring: &[u8; CAPACITY],
+        ends: &mut [u64; SEGMENTS as usize],
+        times: &mut [u64; SEGMENTS as usize],
+    ) -> Added
         requires { Room self.tick self.stamp self.line self.row out.old ring.now ends.old times.old }
         ensures { Cuts self.tick self.stamp self.line self.row ring.now ends.old times.old out.old result ends.new times.new out.new }
     {
@@ -81,7 +94,13 @@ impl Step {
     }
 
     // Steps 2 and 3.
-    fn resend_cut(self, out: &mut [u8], ring: &[u8], ends: &mut [u64], times: &mut [u64]) -> Added
+    fn resend_cut(
+        self,
+        out: &mut [u8],
+        ring: &[u8; CAPACITY],
+        ends: &mut [u64; SEGMENTS as usize],
+        times: &mut [u64; SEGMENTS as usize],
+    ) -> Added
         requires { Room self.tick self.stamp self.line self.row out.old ring.now ends.old times.old }
         ensures { Both self.tick self.stamp self.line self.row ring.now ends.old times.old out.old result ends.new times.new out.new }
     {
@@ -105,14 +124,14 @@ impl Step {
         }
     }
 
-    // Steps 2, 3 and 4 of a tick: writes the datagrams one after the other into out. probed is the last PROBE, as the table has it.
+    /// Steps 2, 3 and 4 of a tick: writes the datagrams one after the other into out. probed is the last PROBE, as the table has it.
     pub fn send(
         self,
         probed: u64,
         out: &mut [u8],
-        ring: &[u8],
-        ends: &mut [u64],
-        times: &mut [u64],
+        ring: &[u8; CAPACITY],
+        ends: &mut [u64; SEGMENTS as usize],
+        times: &mut [u64; SEGMENTS as usize],
     ) -> Sent
         requires { Room self.tick self.stamp self.line self.row out.old ring.now ends.old times.old }
         ensures { Sends self.tick self.stamp self.line self.row probed ring.now ends.old times.old out.old result ends.new times.new out.new }

@@ -9,6 +9,7 @@ ghost use Rattle.stream.specs.Opening.{Saved, Opened};
 ghost use Rattle.stream.specs.Streams.{Finished, Gave, Took};
 
 use receiving::Scalars;
+use ring::CAPACITY;
 use sending::Line;
 use table::{
     Common, RECEIVES, SENDS, Sends, WINDOW, save_common, save_scalars, save_sends, scalars_in,
@@ -16,6 +17,7 @@ use table::{
 };
 
 // Stores all three sections of scalars.
+#[tactic(auto, using(crate::specs::OpeningLaws::saved))]
 fn save_all(t: &mut [u64], c: Common, s: Sends, v: Scalars)
     requires { table_words ≤ length t.old }
     ensures { Saved t.old c s v t.new }
@@ -29,8 +31,7 @@ pub fn open_end(t: &mut [u64], marks: &mut [u8], epoch: u64, interval: u64)
     requires { (table_words ≤ length t.old) × (capacity ≤ length marks.old) }
     ensures { Opened t.old marks.old epoch interval t.new marks.new }
 {
-    let k = ring::size();
-    let v = taking::start(&mut marks[0..k]);
+    let v = taking::start(marks.first_chunk_mut::<CAPACITY>().unwrap());
     let c = Common {
         opened: 1,
         epoch,
@@ -63,8 +64,8 @@ pub fn give(t: &mut [u64], outgoing: &mut [u8], bytes: &[u8]) -> u64
     ensures { Gave t.old outgoing.old bytes.now result t.new outgoing.new }
 {
     let s = sends_in(t);
-    let k = ring::size();
-    let n = sending::give(&mut outgoing[0..k], s.line, s.row.acked, bytes);
+    let ring = outgoing.first_chunk_mut::<CAPACITY>().unwrap();
+    let n = sending::give(ring, s.line, s.row.acked, bytes);
     let line = Line {
         given: s.line.given + n,
         ..s.line
@@ -79,8 +80,8 @@ pub fn take(t: &mut [u64], incoming: &[u8], out: &mut [u8]) -> Scalars
     ensures { Took t.old incoming.now out.old result t.new out.new }
 {
     let s = scalars_in(t);
-    let k = ring::size();
-    let after = taking::take(&incoming[0..k], s, out);
+    let ring = incoming.first_chunk::<CAPACITY>().unwrap();
+    let after = taking::take(ring, s, out);
     save_scalars(&mut t[RECEIVES..WINDOW], after);
     after
 }

@@ -192,3 +192,7 @@ pub ready_ranged : {v : Sections} {s : Scalars} → Ready v → s ≡ scalars_of
 ready_ranged r e = rw e r.receives
 
 pub ruleset readied = (ready_table, ready_first, ready_sections)
+
+pub ruleset opened_laws = (opened_plausible, opened_not_orderly, opened_not_going)
+
+pub ruleset ready_laws = (short_table, ready_short, ready_fine, ready_unopened)

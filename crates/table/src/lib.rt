@@ -1,4 +1,5 @@
 // The table of an end: its sections, loaded into structs and stored; and refusals 10 to 12, which need no more than the table and lengths.
+// That a table has its words, and that it is ready, are clauses here and above, and not a type: a host may lend a longer one, and a struct around a lent `&mut` would have to promise in each function that it still lends the same.
 #![tactic(auto)]
 
 ghost use Rattle.std.specs.Prelude.{◌≡◌, ℕ, ◌+◌, ◌≤◌, ◌<◌, length};
@@ -12,7 +13,7 @@ use ring::CAPACITY;
 use sending::{Line, Row};
 use wire::CEILING;
 
-// Where each section of the table begins, after the common one; and the words in all.
+/// Where each section of the table begins, after the common one; and the words in all.
 pub const SENDS: usize = 7;
 
 pub const RECEIVES: usize = 15;
@@ -27,7 +28,7 @@ pub const TABLE_WORDS: usize = 165;
 
 const INTERVAL_MOST: u64 = 65535;
 
-// What belongs to neither side: whether the end was opened, R, the clock, the last number used, whether an ACK is due, and the highest number accepted.
+/// What belongs to neither side: whether the end was opened, R, the clock, the last number used, whether an ACK is due, and the highest number accepted. opened and due are the table's words as they are: a damaged table may have any, and `going` judges them.
 #[derive(Clone, Copy)]
 pub struct Common {
     pub opened: u64,
@@ -39,7 +40,7 @@ pub struct Common {
     pub high: u64,
 }
 
-// The sending side's scalars.
+/// The sending side's scalars.
 #[derive(Clone, Copy)]
 pub struct Sends {
     pub line: Line,
@@ -47,10 +48,12 @@ pub struct Sends {
     pub probed: u64,
 }
 
-fn load_common(w: &[u64]) -> Common
-    requires { length w.now ≡ common_size }
-    ensures { result ≡ common_of w.now }
+#[tactic(auto, unfolding(crate::specs::Layout::sections_of, crate::specs::Layout::common_of))]
+pub fn common_in(t: &[u64]) -> Common
+    requires { table_words ≤ length t.now }
+    ensures { result ≡ common_of (sections_of t.now).common }
 {
+    let w = &t[0..SENDS];
     Common {
         opened: w[0],
         epoch: w[1],
@@ -62,17 +65,12 @@ fn load_common(w: &[u64]) -> Common
     }
 }
 
-pub fn common_in(t: &[u64]) -> Common
+#[tactic(auto, unfolding(crate::specs::Layout::sections_of, crate::specs::Layout::sends_of))]
+pub fn sends_in(t: &[u64]) -> Sends
     requires { table_words ≤ length t.now }
-    ensures { result ≡ common_of (sections_of t.now).common }
+    ensures { result ≡ sends_of (sections_of t.now).sends }
 {
-    load_common(&t[0..SENDS])
-}
-
-fn load_sends(w: &[u64]) -> Sends
-    requires { length w.now ≡ sends_size }
-    ensures { result ≡ sends_of w.now }
-{
+    let w = &t[SENDS..RECEIVES];
     Sends {
         line: Line {
             given: w[0],
@@ -89,17 +87,12 @@ fn load_sends(w: &[u64]) -> Sends
     }
 }
 
-pub fn sends_in(t: &[u64]) -> Sends
+#[tactic(auto, unfolding(crate::specs::Layout::sections_of, crate::specs::Layout::scalars_of))]
+pub fn scalars_in(t: &[u64]) -> Scalars
     requires { table_words ≤ length t.now }
-    ensures { result ≡ sends_of (sections_of t.now).sends }
+    ensures { result ≡ scalars_of (sections_of t.now).receives }
 {
-    load_sends(&t[SENDS..RECEIVES])
-}
-
-fn load_scalars(w: &[u64]) -> Scalars
-    requires { length w.now ≡ receives_size }
-    ensures { result ≡ scalars_of w.now }
-{
+    let w = &t[RECEIVES..WINDOW];
     Scalars {
         taken: w[0],
         low: w[1],
@@ -110,13 +103,8 @@ fn load_scalars(w: &[u64]) -> Scalars
     }
 }
 
-pub fn scalars_in(t: &[u64]) -> Scalars
-    requires { table_words ≤ length t.now }
-    ensures { result ≡ scalars_of (sections_of t.now).receives }
-{
-    load_scalars(&t[RECEIVES..WINDOW])
-}
-
+/// The three sections are loaded and stored by functions of their own: they differ in their fields. From would need arrays cut out of the table and put back, and can't stand here for Scalars, which is `receiving`'s.
+#[tactic(auto, unfolding(crate::specs::Layout::common_words))]
 pub fn save_common(w: &mut [u64], c: Common)
     requires { length w.old ≡ common_size }
     ensures { w.new ≡ common_words c }
@@ -126,6 +114,7 @@ pub fn save_common(w: &mut [u64], c: Common)
     ]);
 }
 
+#[tactic(auto, unfolding(crate::specs::Layout::sends_words))]
 pub fn save_sends(w: &mut [u64], s: Sends)
     requires { length w.old ≡ sends_size }
     ensures { w.new ≡ sends_words s }
@@ -143,6 +132,7 @@ pub fn save_sends(w: &mut [u64], s: Sends)
     ]);
 }
 
+#[tactic(auto, unfolding(crate::specs::Layout::scalars_words))]
 pub fn save_scalars(w: &mut [u64], s: Scalars)
     requires { length w.old ≡ receives_size }
     ensures { w.new ≡ scalars_words s }
@@ -150,7 +140,7 @@ pub fn save_scalars(w: &mut [u64], s: Scalars)
     w.copy_from_slice(&[s.taken, s.low, s.tail, s.high, s.known, s.end]);
 }
 
-// Refusal 10.
+/// Refusal 10.
 #[tactic(auto, using(laws::specs::RowsLaws::rows), unfolding(crate::specs::Rows::interval_row))]
 pub fn interval_row(interval: u64) -> Result<(), Refusal>
     ensures { row_of result ≡ interval_row interval }
@@ -179,6 +169,7 @@ fn going(c: Common) -> bool
 }
 
 // Whether the table's words are those of an opened end.
+#[tactic(auto, using(crate::specs::ReadyLaws::opened_laws))]
 fn opened(t: &[u64]) -> bool
     requires { table_words ≤ length t.now }
     ensures { result ≡ opened_of (sections_of t.now) }
@@ -187,7 +178,7 @@ fn opened(t: &[u64]) -> bool
     going(common_in(t)) && sending::plausible(line, row) && scalars_in(t).plausible()
 }
 
-// Refusal 11, of a table and two buffers as long as this.
+/// Refusal 11, of a table and two buffers as long as this.
 #[tactic(auto, using(laws::specs::RowsLaws::rows), unfolding(crate::specs::Rows::short_row))]
 pub fn short_row(table: usize, a: usize, b: usize) -> Result<(), Refusal>
     ensures { row_of result ≡ short_row table a b }
@@ -198,7 +189,8 @@ pub fn short_row(table: usize, a: usize, b: usize) -> Result<(), Refusal>
     Ok(())
 }
 
-// Refusals 11 and 12.
+/// Refusals 11 and 12, of a table and two buffers as long as this: a call without the second one says CAPACITY for it, as `ready_of` has two.
+#[tactic(auto, using(crate::specs::ReadyLaws::ready_laws))]
 pub fn ready(t: &[u64], a: usize, b: usize) -> Result<(), Refusal>
     ensures { row_of result ≡ ready_of t.now a b }
 {

@@ -13,22 +13,21 @@ ghost use Rattle.table.specs.ReadyLaws.{Ready};
 ghost use Rattle.ticking.specs.Ticking.{clock_by, allowance_by, acks_by, AckSent, SegmentsSent, SendReady, Planned, AckReady, AckOver, TickReady, Ticked};
 
 use refusals::Refusal;
-use segments::SEGMENTS;
+use ring::CAPACITY;
 use sending::{Row, Sent, Stamp, Tick};
 use steps::Step;
 use table::{
-    Common, ENDS, RECEIVES, SENDS, Sends, TIMES, common_in, save_common, save_sends, scalars_in,
-    sends_in,
+    Common, RECEIVES, SENDS, Sends, TIMES, common_in, save_common, save_sends, scalars_in, sends_in,
 };
 use wire::{CEILING, Header, Kind};
 
 // At most so many datagrams leave in a tick.
 const DATAGRAMS: u64 = 32;
 
-// 32 datagrams of 1,056 bytes.
+/// 32 datagrams of 1,056 bytes.
 pub const OUTPUT_LEAST: usize = 33792;
 
-// Refusal 13.
+/// Refusal 13.
 #[tactic(auto, using(crate::specs::TickingLaws::output_short, crate::specs::TickingLaws::output_fine))]
 pub fn output_row(n: usize) -> Result<(), Refusal>
     ensures { row_of result ≡ output_row n }
@@ -59,7 +58,7 @@ fn allowance(now: u64, next: u64, number: u64) -> u64
     }
 }
 
-// How many ACKs leave: one, if it is due and allowed.
+// How many ACKs leave: one, if it is due and allowed. A number and no bool, here and in Plan: it is added and subtracted, and `Planned` and `AckOver` have it so.
 #[tactic(auto, unfolding(crate::specs::Ticking::acks_by))]
 fn acks(due: u64, allowed: u64) -> u64
     ensures { result ≡ acks_by due allowed }
@@ -67,7 +66,7 @@ fn acks(due: u64, allowed: u64) -> u64
     u64::from(due == 1 && 0 < allowed)
 }
 
-// What a tick has to go by.
+/// What a tick has to go by.
 #[derive(Clone, Copy)]
 pub struct Plan {
     pub now: u64,
@@ -75,6 +74,7 @@ pub struct Plan {
     pub acks: u64,
 }
 
+#[tactic(auto, using(crate::specs::TickingLaws::number_loaded, crate::specs::TickingLaws::planned))]
 fn plan_of(t: &[u64]) -> Plan
     requires { (table_words ≤ length t.now) × Ready (sections_of t.now) }
     ensures { Planned (sections_of t.now) result }
@@ -90,6 +90,7 @@ fn plan_of(t: &[u64]) -> Plan
 }
 
 // The ACK, in all of out.
+#[tactic(auto, using(table::specs::ReadyLaws::ready_ranged, crate::specs::TickingLaws::ack_sent))]
 fn write_ack(out: &mut [u8], t: &[u64], epoch: u64, number: u64)
     requires table_words_in_bounds { (table_words ≤ length t.now) × Ready (sections_of t.now) }
     requires out_len { length out.old ≡ head_size }
@@ -116,7 +117,6 @@ fn send_segments(t: &mut [u64], outgoing: &[u8], out: &mut [u8], tick: Tick, sta
     ensures { SegmentsSent tick stamp t.old outgoing.now out.old result t.new out.new }
 {
     let Sends { line, row, probed } = sends_in(t);
-    let k = ring::size();
     let (front, times) = t.split_at_mut(TIMES);
     let step = Step {
         tick,
@@ -127,9 +127,9 @@ fn send_segments(t: &mut [u64], outgoing: &[u8], out: &mut [u8], tick: Tick, sta
     let sent = step.send(
         probed,
         out,
-        &outgoing[0..k],
-        &mut front[ENDS..],
-        &mut times[..SEGMENTS as usize],
+        outgoing.first_chunk::<CAPACITY>().unwrap(),
+        front.last_chunk_mut().unwrap(),
+        times.first_chunk_mut().unwrap(),
     );
     save_sends(
         &mut t[SENDS..RECEIVES],
@@ -158,7 +158,7 @@ fn ack_first(out: &mut [u8], t: &[u64], c: Common, a: u64) -> usize
     32
 }
 
-// All four steps. Answers the bytes written.
+/// All four steps. Answers the bytes written.
 pub fn tick_end(t: &mut [u64], outgoing: &[u8], out: &mut [u8]) -> u64
     requires { TickReady t.old (length outgoing.now) (length out.old) }
     ensures { Ticked t.old outgoing.now out.old result t.new out.new }

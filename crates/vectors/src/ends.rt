@@ -19,7 +19,7 @@ pub struct End {
     marks: [u8; CAPACITY],
 }
 
-/// An output buffer. A tick sends its first bytes, `sent` of them the last one.
+/// An output buffer, an array as there is no heap. A tick sends its first bytes, `sent` of them the last one. No ghost field bounds `sent`: the check has no rule for lending a part of the array of a struct that has one.
 #[derive(Clone, Copy)]
 pub struct Output {
     bytes: [u8; OUTPUT_LEAST],
@@ -145,7 +145,7 @@ impl End {
     }
 }
 
-// Any line for an end.
+/// Any line for an end.
 pub fn line(to: Stdout, line: Line<'_>, end: &mut End, output: &mut Output) -> io::Result<()> {
     match line.second() {
         b"open" => end.open(to, line),

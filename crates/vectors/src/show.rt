@@ -45,7 +45,7 @@ fn some(to: Stdout, d: &[u8]) -> io::Result<()> {
     print!(to; "not all the same")
 }
 
-// What take answered: how many bytes of room were taken, whether the END has been reached, and the bytes.
+/// What take answered: how many bytes of room were taken, whether the END has been reached, and the bytes.
 pub fn taken(to: Stdout, taken: Result<(u64, bool), Refusal>, room: &[u8]) -> io::Result<()> {
     let (n, ended) = match taken {
         Ok(taken) => taken,
@@ -55,7 +55,7 @@ pub fn taken(to: Stdout, taken: Result<(u64, bool), Refusal>, room: &[u8]) -> io
     some(to, &room[..(n as usize).min(room.len())])
 }
 
-// A refusal's number, or ok.
+/// A refusal's number, or ok.
 pub fn verdict(to: Stdout, verdict: Result<(), Refusal>) -> io::Result<()> {
     match verdict {
         Ok(()) => print!(to; " ok"),
@@ -63,7 +63,7 @@ pub fn verdict(to: Stdout, verdict: Result<(), Refusal>) -> io::Result<()> {
     }
 }
 
-// What a call answered.
+/// What a call answered.
 pub fn answer(to: Stdout, answer: Result<u64, Refusal>) -> io::Result<()> {
     match answer {
         Ok(n) => print!(to; " {n}"),

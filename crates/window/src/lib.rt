@@ -1,47 +1,44 @@
 // Numbers, taken at most once: 01 section 4. A window is h, the highest number accepted, and 16 words of marks.
 #![tactic(auto)]
 
-ghost use Rattle.std.specs.Prelude.{◌≡◌, ℕ, ◌+◌, ◌-◌, ◌≤◌, ◌<◌, not, eqb, length};
+ghost use Rattle.std.specs.Prelude.{◌≡◌, ℕ, ◌+◌, ◌-◌, ◌≤◌, ◌<◌, not, eqb};
+ghost use Rattle.std.specs.Int.{from_bool};
 ghost use Rattle.refusals.specs.Refusals.{row_of};
 ghost use Rattle.window.specs.Window.{width, verdict_of};
-ghost use Rattle.window.specs.Marks.{words, mark, window_of, Put, Accepts};
+ghost use Rattle.window.specs.Marks.{mark, window_of, Put, Accepts};
 
 use refusals::Refusal;
 
 pub const WIDTH: u64 = 1024;
 
-const WORDS: u64 = 16;
+/// The words of its marks.
+pub const WORDS: usize = 16;
 
 // Whether q has its mark.
-fn marked(m: &[u64], q: u64) -> bool
-    requires { length m.now ≡ words }
+fn marked(m: &[u64; WORDS], q: u64) -> bool
     ensures { result ≡ not (eqb (mark m.now q) 0) }
 {
-    let i = (q / 64 % WORDS) as usize;
+    let i = (q / 64) as usize % WORDS;
     m[i] >> (q % 64) & 1 != 0
 }
 
-fn set_mark(m: &mut [u64], q: u64)
-    requires { length m.old ≡ words }
-    ensures { Put m.old q 1 m.new }
+// Sets the mark of q, or clears it where v is false.
+#[tactic(auto, using(crate::proofs::Marks::put_one, crate::proofs::Marks::put_zero))]
+fn put(m: &mut [u64; WORDS], q: u64, v: bool)
+    ensures { Put m.old q (from_bool v) m.new }
 {
-    let i = (q / 64 % WORDS) as usize;
-    m[i] = m[i] | 1 << (q % 64);
+    let i = (q / 64) as usize % WORDS;
+    let bit: u64 = 1 << (q % 64);
+    if v {
+        m[i] = m[i] | bit;
+    } else {
+        m[i] = (m[i] | bit) ^ bit;
+    }
 }
 
-fn clear_mark(m: &mut [u64], q: u64)
-    requires { length m.old ≡ words }
-    ensures { Put m.old q 0 m.new }
-{
-    let i = (q / 64 % WORDS) as usize;
-    let b: u64 = 1 << (q % 64);
-    m[i] = (m[i] | b) ^ b;
-}
-
-// What becomes of the number p: refused with 4, 5 or 6, or new.
+/// What becomes of the number p: refused with 4, 5 or 6, or new. h and the marks are two parameters: they stand in two sections of the table, which is lent `&` here and `&mut` to `accept`.
 #[tactic(auto, using(crate::proofs::MarksLaws::verdicts))]
-pub fn verdict(h: u64, m: &[u64], p: u64) -> Result<(), Refusal>
-    requires { length m.now ≡ words }
+pub fn verdict(h: u64, m: &[u64; WORDS], p: u64) -> Result<(), Refusal>
     ensures { row_of result ≡ verdict_of (window_of h m.now) p }
 {
     if p == 0 {
@@ -59,19 +56,19 @@ pub fn verdict(h: u64, m: &[u64], p: u64) -> Result<(), Refusal>
     Ok(())
 }
 
-// Marks p, clears the marks of the numbers that are passed, and answers the highest number.
-pub fn accept(h: u64, m: &mut [u64], p: u64) -> u64
-    requires { (length m.old ≡ words) × ((0 < p) × (h < p + width)) }
+/// Marks p, clears the marks of the numbers that are passed, and answers the highest number.
+pub fn accept(h: u64, m: &mut [u64; WORDS], p: u64) -> u64
+    requires { (0 < p) × (h < p + width) }
     ensures { Accepts h m.old p result m.new }
 {
     if p <= h {
-        set_mark(m, p);
+        put(m, p, true);
         return h;
     }
     let first = (h + 1).max(p.saturating_sub(WIDTH));
     for q in first..p {
-        clear_mark(m, q);
+        put(m, q, false);
     }
-    set_mark(m, p);
+    put(m, p, true);
     p
 }

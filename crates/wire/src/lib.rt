@@ -47,7 +47,7 @@ impl TryFrom<u64> for Kind {
     }
 }
 
-/// The fields before the payload. The kind is a number: fields are read before they are judged, and a header may say any.
+/// The fields before the payload. Kind and flags are numbers: fields are read before they are judged, and a header may say any.
 #[derive(Clone, Copy)]
 pub struct Header {
     pub kind: u64,

@@ -1,5 +1,4 @@
-//! The calls take little stack. In Rattle a copy goes through a local of 65,536 bytes that the compiler drops: were it
-//! there after all, none of these would end.
+//! The calls take little stack: no copy goes through a buffer as large as a ring.
 
 use std::thread;
 

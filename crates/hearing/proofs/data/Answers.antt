@@ -1,13 +1,12 @@
 -- `hearing::data` meets its contract. Assumes nothing.
-use Rattle.table.specs.LayoutLaws.{ring_sized}
 use Rattle.hearing.proofs.HearingLaws.{data_lent, data_room, data_some, data_near, data_done}
-use Rattle.std.proofs.Common.{rules}
+use Rattle.std.proofs.Common.{refl, rules, sym}
 use Rattle.hearing.proofs.data.Goals as goal
 
 pub hear-v-requires : goal.hear-v-requires
 hear-v-requires c =
     record {
-      lent = data_lent (ring_sized c.size-k.ensures) c.args.incoming.now c.args.marks.now c.requires.hearing c.scalars_in-s.ensures;
+      ranged = (data_lent refl c.args.incoming.now c.args.marks.now c.requires.hearing c.scalars_in-s.ensures).ranged;
       room = data_room c.requires.hearing c.requires.kind_value c.scalars_in-s.ensures;
     }
 
@@ -22,7 +21,10 @@ slice_bounds-save_scalars-end c =
     search rules
 
 done : goal.returns
-done c = data_done (ring_sized c.size-k.ensures) c.requires.hearing c.scalars_in-s.ensures c.hear-v.ensures c.note.ensures c.save_scalars.ensures
+done c =
+    let i = rw c.unwrap.ensures at c.first_chunk_mut.ensures.cases in
+    let m = rw c.unwrap-2.ensures at c.first_chunk_mut-2.ensures.cases in
+    data_done refl c.requires.hearing c.scalars_in-s.ensures (rw (sym i.same, sym m.same) c.hear-v.ensures) c.note.ensures c.save_scalars.ensures
 
 pub shape_of-t : goal.shape_of-t
 shape_of-t c = (done c).size

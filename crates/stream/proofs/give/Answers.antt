@@ -1,6 +1,5 @@
 -- `stream::give` meets its contract. Assumes nothing.
-use Rattle.std.proofs.Common.{arith, rules}
-use Rattle.table.specs.LayoutLaws.{ring_sized}
+use Rattle.std.proofs.Common.{arith, rules, refl, sym}
 use Rattle.stream.specs.StreamLaws.{given_fits, gave}
 use Rattle.stream.proofs.give.Goals as goal
 
@@ -12,4 +11,5 @@ slice_bounds-save_sends-end c = let h = c.requires.table_words_in_bounds.0 in se
 
 pub returns : goal.returns
 returns c =
-    gave c.args.t.now _ c.sends_in-s.result c.requires.table_words_in_bounds.0 c.sends_in-s.ensures (ring_sized c.size-k.ensures) c.args.outgoing.now c.args.bytes.now _ _ c.requires.capacity_in_bounds c.give-n.ensures c.save_sends.ensures
+    let z = rw c.unwrap-ring.ensures at c.first_chunk_mut.ensures.cases in
+    gave c.args.t.now _ c.sends_in-s.result c.requires.table_words_in_bounds.0 c.sends_in-s.ensures refl c.args.outgoing.now c.args.bytes.now _ _ c.requires.capacity_in_bounds (rw (sym z.same) c.give-n.ensures) c.save_sends.ensures

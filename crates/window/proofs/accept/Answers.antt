@@ -8,10 +8,10 @@ pub returns-then-p-h : goal.returns-then-p-h
 returns-then-p-h c = marked_accepts _ _ _ _ _ (search (rules, accepted_within)) (search rules) (search rules)
 
 pub loop-q-init : goal.loop-q-init
-loop-q-init c = (search rules, search (rules, starts), cleared_none _ _ _)
+loop-q-init c = (search (rules, starts), cleared_none _ _ _)
 
 pub loop-q-preserved : goal.loop-q-preserved
-loop-q-preserved c = (search rules, search rules, search (rules, cleared_more))
+loop-q-preserved c = (search rules, search (rules, cleared_more))
 
 pub returns : goal.returns
 returns c = marked_accepts _ _ _ _ _ (search (rules, accepted_above)) (search rules) (search rules)

@@ -1,7 +1,0 @@
--- `table::common_in` meets its contract. Assumes nothing.
-use Rattle.table.specs.Layout.{sections_of}
-use Rattle.table.proofs.common_in.Goals as goal
-
-pub returns : goal.returns
-unfolding sections_of
-returns c = c.load_common.ensures
