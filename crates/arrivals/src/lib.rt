@@ -1,5 +1,5 @@
 // 01 section 5: what has arrived, laid into a ring of bytes and a ring of marks, position by position.
-// The ring, the marks, and src with its position p are parameters each: `Stored`, `Laid` and `Placed` speak of each before and after, and would take a struct of them apart in every clause.
+// The ring, the marks, and src with its position p are parameters each: `Stored`, `Laid` and `Placed` speak of each before and after, and would take a struct of them apart in every clause. What is asked of them (`src_len_bound`, `p_le_a`) stands in each function's clauses for the same reason.
 #![tactic(auto)]
 
 ghost use Rattle.std.specs.Prelude.{◌+◌, ◌≤◌, ◌<◌, length};

@@ -21,7 +21,7 @@ fn run_of(m: &[u8], v: u8) -> usize
     m.iter().take_while(|x| **x == v).count()
 }
 
-/// The index of the first byte of m that is not v, or m's length where there is none.
+/// The index of the first byte of m that is not v, or m's length where there is none (`Other` says so).
 pub fn first_other(m: &[u8], v: u8) -> usize
     ensures { Other m.now v 0 result }
 {

@@ -69,7 +69,7 @@ fn note(t: &mut [u64], number: u64, due: u64)
     save_common(&mut t[0..SENDS], Common { due, high, ..c });
 }
 
-// An accepted DATA.
+// An accepted DATA. Its kind in the clause, as an ACK's below, is a number, as `place_row` has it.
 fn data(t: &mut [u64], incoming: &mut [u8], marks: &mut [u8], d: &[u8], h: Header)
     requires hearing { Hearing t.old (length incoming.old) (length marks.old) d.now h }
     requires kind_value { h.kind ≡ 1 }

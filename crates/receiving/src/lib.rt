@@ -36,7 +36,7 @@ impl Scalars {
             && self.high <= self.taken + CAPACITY as u64
     }
 
-    // The END's position, where it is known. The fields stay the table's two words: in a damaged table known may be any number.
+    // The END's position, where it is known. The fields stay the table's two words (`end_of`, `scalars_of`): in a damaged table known may be any number.
     #[tactic(auto, using(crate::specs::ReadLaws::end_laws))]
     fn end(self) -> Option<u64>
         ensures { MatchOption result (end_of self.known self.end ≡ none) (λ k. end_of self.known self.end ≡ at k) }

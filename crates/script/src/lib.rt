@@ -8,7 +8,7 @@ pub mod datagram;
 pub mod numbers;
 pub mod shown;
 
-/// The pieces of a text, each with the byte that ends it. std's `split_inclusive` keeps what is left to itself, and here `rest` is a line after a word.
+/// The pieces of a text, each with the byte that ends it. std's `split_inclusive` keeps what is left to itself, and `Line::after` needs what is left after a word.
 #[derive(Clone, Copy)]
 pub struct Pieces<'a> {
     pub rest: &'a [u8],

@@ -16,7 +16,7 @@ use segments::SEGMENTS;
 pub use segments::{Line, Row, Stamp, Tick};
 use wire::CEILING;
 
-/// What a tick did: bytes and datagrams written; the next position, the segments kept, and one more than the tick of the last PROBE.
+/// What a tick did: bytes and datagrams written; the next position, the segments kept, and one more than the tick of the last PROBE, the table's word as in `Credit`.
 #[derive(Clone, Copy)]
 pub struct Sent {
     pub bytes: usize,

@@ -1,4 +1,4 @@
-// The host's side of an end on its table: open, whatever table and marks held; give, finish and take, of an end that is ready.
+// The host's side of an end on its table: open, whatever table and marks held; give, finish and take, of an end that is ready. A lent ring may be longer than CAPACITY, as a host lends it (`Opened`, `Gave`, `Took`): so its length is a clause and no type.
 #![tactic(auto)]
 
 ghost use Rattle.std.specs.Prelude.{◌≡◌, ℕ, ◌≤◌, length};

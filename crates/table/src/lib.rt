@@ -40,13 +40,15 @@ pub struct Common {
     pub high: u64,
 }
 
-/// The sending side's scalars.
+/// The sending side's scalars. probed is the table's word, as in `sending::Credit`.
 #[derive(Clone, Copy)]
 pub struct Sends {
     pub line: Line,
     pub row: Row,
     pub probed: u64,
 }
+
+// The three sections are loaded and stored by functions of their own: they differ in their fields. From would need arrays cut out of the table and put back, and can't stand here for Scalars, which is `receiving`'s.
 
 #[tactic(auto, unfolding(crate::specs::Layout::sections_of, crate::specs::Layout::common_of))]
 pub fn common_in(t: &[u64]) -> Common
@@ -103,7 +105,7 @@ pub fn scalars_in(t: &[u64]) -> Scalars
     }
 }
 
-/// The three sections are loaded and stored by functions of their own: they differ in their fields. From would need arrays cut out of the table and put back, and can't stand here for Scalars, which is `receiving`'s.
+/// Stores the common section.
 #[tactic(auto, unfolding(crate::specs::Layout::common_words))]
 pub fn save_common(w: &mut [u64], c: Common)
     requires { length w.old ≡ common_size }

@@ -22,7 +22,7 @@ fn marked(m: &[u64; WORDS], q: u64) -> bool
     m[i] >> (q % 64) & 1 != 0
 }
 
-// Sets the mark of q, or clears it where v is false.
+// Sets the mark of q, or clears it where v is false. Not `marks::put`: the definitions speak of words here (`window_of`), and of bytes there (`mark`).
 #[tactic(auto, using(crate::proofs::Marks::put_one, crate::proofs::Marks::put_zero))]
 fn put(m: &mut [u64; WORDS], q: u64, v: bool)
     ensures { Put m.old q (from_bool v) m.new }

@@ -47,7 +47,7 @@ impl TryFrom<u64> for Kind {
     }
 }
 
-/// The fields before the payload. Kind and flags are numbers: fields are read before they are judged, and a header may say any.
+/// The fields before the payload. Kind and flags are numbers: fields are read before they are judged, and a header may say any (`Fields`, `form_of`).
 #[derive(Clone, Copy)]
 pub struct Header {
     pub kind: u64,
