@@ -14,7 +14,7 @@ flag true = refl
 flag false = refl
 
 -- the header and the bytes of a segment's DATA are the datagram
-data_is : (given : ℕ) (ring : List ℕ) (e n a b k f len : ℕ) → k ≡ 1 → f ≡ end_of given b → len ≡ size_of given a b
+pub data_is : (given : ℕ) (ring : List ℕ) (e n a b k f len : ℕ) → k ≡ 1 → f ≡ end_of given b → len ≡ size_of given a b
     → head_of (record { kind = k; flags = f; length = len; epoch = e; number = n; position = a; credit = 0 }) ++ span ring a len ≡ encode e n (data_of given (span ring) a b)
 unfolding encode data_of header_of kind_of flags_of position_of credit_of payload_of
 data_is given ring e n a b k f len p q r = rw (p, q, r, span_length)

@@ -22,6 +22,25 @@ pub fn before_seam(at: usize, n: usize) -> usize
     n.min(CAPACITY - at)
 }
 
+// All of src into dst. Never inlined: `copy_from_slice` brings a loop for slices that overlap, which none here do, and at each copy it took registers from the code around it.
+#[inline(never)]
+fn copy_all(dst: &mut [u8], src: &[u8])
+    requires { length dst.old ≡ length src.now }
+    ensures { dst.new ≡ src.now }
+{
+    dst.copy_from_slice(src);
+}
+
+// The same, and no call where there is nothing: most copies have no bytes beyond the seam.
+fn copy(dst: &mut [u8], src: &[u8])
+    requires { length dst.old ≡ length src.now }
+    ensures { dst.new ≡ src.now }
+{
+    if !src.is_empty() {
+        copy_all(dst, src);
+    }
+}
+
 /// Writes src into the ring from the position pos on.
 pub fn ring_put(ring: &mut [u8; CAPACITY], pos: u64, src: &[u8])
     requires src_len_bound { length src.now ≤ capacity }
@@ -29,8 +48,8 @@ pub fn ring_put(ring: &mut [u8; CAPACITY], pos: u64, src: &[u8])
 {
     let at = index(pos);
     let (before, beyond) = src.split_at(before_seam(at, src.len()));
-    ring[at..at + before.len()].copy_from_slice(before);
-    ring[..beyond.len()].copy_from_slice(beyond);
+    copy(&mut ring[at..at + before.len()], before);
+    copy(&mut ring[..beyond.len()], beyond);
 }
 
 /// Reads dst.len() bytes of the ring from the position pos on.
@@ -40,6 +59,6 @@ pub fn ring_get(dst: &mut [u8], ring: &[u8; CAPACITY], pos: u64)
 {
     let at = index(pos);
     let (before, beyond) = dst.split_at_mut(before_seam(at, dst.len()));
-    before.copy_from_slice(&ring[at..at + before.len()]);
-    beyond.copy_from_slice(&ring[..beyond.len()]);
+    copy(before, &ring[at..at + before.len()]);
+    copy(beyond, &ring[..beyond.len()]);
 }

@@ -1,7 +1,7 @@
 // The script of `vectors`: its lines, and the words and numbers of a line.
 #![tactic(auto)]
 
-ghost use Rattle.std.specs.Prelude.{◌≡◌, ◌≤◌, ◌<◌, ◌++◌, length, MatchOption, IsTrue};
+ghost use Rattle.std.specs.Prelude.{◌≡◌, ◌-◌, ◌≤◌, ◌<◌, ◌++◌, length, take, drop, MatchOption, IsTrue};
 ghost use Rattle.std.specs.Iterator.{at_most};
 
 pub mod datagram;
@@ -48,10 +48,14 @@ pub fn lines(text: &[u8]) -> Pieces<'_>
     }
 }
 
-// A word's letters: it ends at the first byte that is none.
-fn letters(word: &[u8]) -> &[u8]
+// The letters of a word that are looked at: one more than a word that a script knows has, so that a longer one is none of them.
+const LETTERS: usize = 9;
+
+// A word's letters, but for those after the first `most`: it ends at the first byte that is none.
+fn letters(word: &[u8], most: usize) -> &[u8]
     ensures { length result.now ≤ length word.now }
 {
+    let word = &word[..most.min(word.len())];
     match word.iter().position(|b| *b <= b' ') {
         Some(at) => &word[..at],
         None => word,
@@ -81,7 +85,8 @@ pub struct Line<'a> {
 impl<'a> Line<'a> {
     /// The line without its newline.
     pub fn bare(self) -> &'a [u8]
-        ensures { length result.now ≤ length self.entry.bytes.now }
+        ensures short { length result.now ≤ length self.entry.bytes.now }
+        ensures beginning { result.now ≡ take (length result.now) self.entry.bytes.now }
     {
         self.bytes.strip_suffix(b"\n").unwrap_or(self.bytes)
     }
@@ -96,11 +101,11 @@ impl<'a> Line<'a> {
         }
     }
 
-    /// Its first word.
+    /// Its first word, of which a long one is cut after nine letters: the longest that is known has eight.
     pub fn first(self) -> &'a [u8]
         ensures { length result.now ≤ length self.entry.bytes.now }
     {
-        letters(self.bytes)
+        letters(self.bytes, LETTERS)
     }
 
     /// A comment, or an empty line, which is one too.
@@ -110,18 +115,22 @@ impl<'a> Line<'a> {
         self.bare().is_empty() || matches!(self.first(), b"#")
     }
 
-    /// Its second word, which is empty where there is none.
+    /// Its second word, cut in the same way, which is empty where there is none.
     pub fn second(self) -> &'a [u8] {
-        letters(self.words().nth(1).unwrap_or(b""))
+        let mut words = self.words();
+        let _ = words.next();
+        letters(words.rest, LETTERS)
     }
 
     /// What follows the word, which is nothing in a line without it: callers take the two alike.
     pub fn after(self, word: &[u8]) -> &'a [u8]
-        ensures { length result.now ≤ length self.entry.bytes.now }
+        ensures short { length result.now ≤ length self.entry.bytes.now }
+        ensures end { result.now ≡ drop (length self.entry.bytes.now - length result.now) self.entry.bytes.now }
     {
         let mut words = self.words();
-        match words.find(|w| letters(w) == word) {
-            Some(_) => words.rest,
+        match words.find(|w| letters(w, word.len() + 1) == word) {
+            // Cut from the line, by how much is left: of `find` the check knows that, and no more.
+            Some(_) => &self.bytes[self.bytes.len() - words.rest.len()..],
             None => b"",
         }
     }

@@ -28,6 +28,6 @@ pub fn line(to: Stdout, line: Line<'_>) -> Result<()> {
         b"form" => show::verdict(to, script::datagram::form(line)),
         b"numbers" => numbers(to, line),
         b"edge" => edge(to, line),
-        _ => print!(to; " what?"),
+        _ => to.write_all(b" what?"),
     }
 }

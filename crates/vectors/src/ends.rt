@@ -74,12 +74,16 @@ impl End {
         )
     }
 
-    // give line: what is left of the line, with its newline. give N of a byte.
+    // give line: what is left of the line, with its newline.
     fn give(&mut self, to: Stdout, line: Line<'_>) -> io::Result<()> {
-        let rest = line.after(b"line");
-        if !rest.is_empty() {
-            return self.give_bytes(to, rest);
+        match line.after(b"line") {
+            [] => self.give_many(to, line),
+            rest => self.give_bytes(to, rest),
         }
+    }
+
+    // give N of a byte. A function of its own: its array is filled where it begins, and in `give` it would be cleared for each line first.
+    fn give_many(&mut self, to: Stdout, line: Line<'_>) -> io::Result<()> {
         let given = script::many(line.letter());
         let n = line.size(b"give", 0, given.len());
         self.give_bytes(to, &given[..n])
@@ -165,6 +169,6 @@ pub fn line(to: Stdout, line: Line<'_>, end: &mut End, output: &mut Output) -> i
             show::datagrams(to, output.sent())
         }
         b"ticks" => end.ticks(to, line, output),
-        _ => print!(to; " what?"),
+        _ => to.write_all(b" what?"),
     }
 }

@@ -12,7 +12,7 @@ fn answer(
     far: &mut End,
     output: &mut Output,
 ) -> Result<()> {
-    print!(to; " ->")?;
+    to.write_all(b" ->")?;
     match line.first() {
         b"near" => ends::line(to, line, near, output),
         b"far" => ends::line(to, line, far, output),
@@ -30,7 +30,7 @@ pub fn play(to: Stdout, text: &[u8]) -> Result<()> {
         if !line.is_comment() {
             answer(to, line, &mut near, &mut far, &mut output)?;
         }
-        println!(to)?;
+        to.write_all(b"\n")?;
     }
     Ok(())
 }

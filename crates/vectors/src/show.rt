@@ -39,10 +39,10 @@ fn some(to: Stdout, d: &[u8]) -> io::Result<()> {
         return to.write_all(d);
     }
     if same(d, d[0]) {
-        print!(to; "all ")?;
+        to.write_all(b"all ")?;
         return to.write_all(&d[..1]);
     }
-    print!(to; "not all the same")
+    to.write_all(b"not all the same")
 }
 
 /// What take answered: how many bytes of room were taken, whether the END has been reached, and the bytes.
@@ -58,7 +58,7 @@ pub fn taken(to: Stdout, taken: Result<(u64, bool), Refusal>, room: &[u8]) -> io
 /// A refusal's number, or ok.
 pub fn verdict(to: Stdout, verdict: Result<(), Refusal>) -> io::Result<()> {
     match verdict {
-        Ok(()) => print!(to; " ok"),
+        Ok(()) => to.write_all(b" ok"),
         Err(refusal) => print!(to; " {}", u64::from(refusal)),
     }
 }

@@ -8,4 +8,4 @@ returns c =
     let x = c.args in
     let p = put_parts x.ring.now x.src.now c.split_at.result.0.now c.split_at.result.1.now x.pos c.index-at.result c.before_seam.result
     (omega arith) c.requires.src_len_bound c.index-at.ensures c.before_seam.ensures c.split_at.ensures.front c.split_at.ensures.back in
-    rw (c.copy_from_slice.ensures.after, c.copy_from_slice-2.ensures.after) p
+    rw (c.copy.ensures, c.copy-2.ensures) p
