@@ -1,5 +1,5 @@
 // Datagrams of a script: made from the fields that a line names, and found in an output.
-ghost use Rattle.std.specs.Prelude.{◌≡◌, ◌+◌, ◌≤◌, ◌<◌, ◌++◌, length, MatchOption};
+ghost use Rattle.std.specs.Prelude.{◌≡◌, ◌+◌, ◌≤◌, ◌<◌, ◌++◌, length, take, MatchOption};
 ghost use Rattle.std.specs.Iterator.{at_most};
 
 use super::Line;
@@ -38,7 +38,8 @@ impl Datagram {
     }
 
     pub fn as_slice(&self) -> &[u8]
-        ensures { length result.now ≤ 2048 }
+        ensures short { length result.now ≤ 2048 }
+        ensures beginning { result.now ≡ take (length result.now) self.now.bytes }
     {
         &self.bytes[..self.size]
     }

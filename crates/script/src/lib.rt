@@ -48,7 +48,7 @@ pub fn lines(text: &[u8]) -> Pieces<'_>
     }
 }
 
-// The letters of a word that are looked at: one more than a word that a script knows has, so that a longer one is none of them.
+// The letters of a word that are looked at: one more than the longest word of a script has, so that one that is longer still is none of them.
 const LETTERS: usize = 9;
 
 // A word's letters, but for those after the first `most`: it ends at the first byte that is none.
@@ -101,7 +101,7 @@ impl<'a> Line<'a> {
         }
     }
 
-    /// Its first word, of which a long one is cut after nine letters: the longest that is known has eight.
+    /// Its first word; a long one is cut after nine letters, as no word of a script has more than eight.
     pub fn first(self) -> &'a [u8]
         ensures { length result.now ≤ length self.entry.bytes.now }
     {
@@ -129,7 +129,7 @@ impl<'a> Line<'a> {
     {
         let mut words = self.words();
         match words.find(|w| letters(w, word.len() + 1) == word) {
-            // Cut from the line, by how much is left: of `find` the check knows that, and no more.
+            // Cut from the line where the rest begins: that the rest is a part of the line, the check does not see through `find`.
             Some(_) => &self.bytes[self.bytes.len() - words.rest.len()..],
             None => b"",
         }

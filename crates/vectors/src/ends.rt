@@ -74,7 +74,7 @@ impl End {
         )
     }
 
-    // give line: what is left of the line, with its newline.
+    // give line: what is left of the line, with its newline; and give N of a byte.
     fn give(&mut self, to: Stdout, line: Line<'_>) -> io::Result<()> {
         match line.after(b"line") {
             [] => self.give_many(to, line),
@@ -82,7 +82,7 @@ impl End {
         }
     }
 
-    // give N of a byte. A function of its own: its array is filled where it begins, and in `give` it would be cleared for each line first.
+    // A function of its own: its array is filled where it begins, and in `give` it would be cleared for each line first.
     fn give_many(&mut self, to: Stdout, line: Line<'_>) -> io::Result<()> {
         let given = script::many(line.letter());
         let n = line.size(b"give", 0, given.len());
@@ -111,6 +111,12 @@ impl End {
             )
             .map(|()| 0),
         )
+    }
+
+    // hear: the datagram of the line. A function of its own, as `give_many` is.
+    fn hear_one(&mut self, to: Stdout, line: Line<'_>) -> io::Result<()> {
+        let datagram = Datagram::new(line);
+        self.hear(to, datagram.as_slice())
     }
 
     // take N.
@@ -155,7 +161,7 @@ pub fn line(to: Stdout, line: Line<'_>, end: &mut End, output: &mut Output) -> i
         b"open" => end.open(to, line),
         b"give" => end.give(to, line),
         b"finish" => end.finish(to),
-        b"hear" => end.hear(to, Datagram::new(line).as_slice()),
+        b"hear" => end.hear_one(to, line),
         b"hears" => {
             for datagram in output.sent() {
                 end.hear(to, datagram)?;
